@@ -1,0 +1,5 @@
+pub mod Bytes
+pub mod Cell
+pub mod Choice
+pub mod Every
+pub mod First

@@ -1,0 +1,15 @@
+pub mod Copies
+pub mod Determined
+pub mod Elements
+pub mod Fitting
+pub mod Found
+pub mod Frames
+pub mod Heads
+pub mod Numbers
+pub mod Outcomes
+pub mod Reading
+pub mod RecordTrips
+pub mod Trips
+pub mod Vectors
+pub mod Writing
+pub mod Wrong

@@ -1,0 +1,142 @@
+-- Worked examples, computed: packets and records both ways, and refusals.
+use Prim.Native.Nat.{ℕ}
+use mathlib.Core.Path.{_≡_, refl}
+use mathlib.Core.List.{List, [], _∷_, _++_, map}
+use lib.ListN.{take, set, replicate}
+use Rattle.ground.specs.Cell.{cells, isMessage, spaces}
+use Rattle.ground.specs.Choice.{if_then_else_}
+use Rattle.ground.specs.Every.{filled}
+use Rattle.ground.specs.First.{first}
+use Rattle.wire.specs.Number.{bytesOf, value}
+use Rattle.wire.specs.Packet.{isBlank, fits, packetBytes, headOf, headAt, readRefusal, accepted, refused, packetRead, writeRefusal, packetWritten}
+use Rattle.wire.specs.Record.{recordBytes, lastUsedOf, lastUsedAt, recordRefusal, recordRead, recordWriteRefusal, recordWritten}
+use Rattle.wire.specs.declared.Head.the-variants.{NeedI, Offer, Data, Ok, Lost, Done}
+use Rattle.wire.specs.declared.LastUsed.{LastUsed}
+use Rattle.wire.specs.declared.LastUsed.the-variants.{Console, Controller}
+use Rattle.wire.specs.declared.Packet.{Packet}
+use Rattle.wire.specs.declared.ReadRecord.the-variants.{Refused, Is}
+
+-- the example that the packet's layout is given with: needI with J = 1
+abbrev pub needI : ℕ → Packet
+needI n = record { head = NeedI (record { 0 = n }); message = replicate 16 0 }
+
+abbrev pub needI-1 : List ℕ
+needI-1 = 0x48 ∷ 0x53 ∷ 0x4C ∷ 0x00 ∷ 0x01 ∷ 0x01 ∷ 0x00 ∷ 0x00 ∷ 0x00 ∷ 0x00 ∷ 0x00 ∷ 0x01 ∷ replicate 20 0
+
+pub needI-1-written : packetBytes (needI 1) ≡ needI-1
+unfolding packetBytes bytesOf
+needI-1-written = refl
+
+pub needI-1-read : packetRead needI-1 ≡ accepted (needI 1)
+unfolding packetRead readRefusal headAt headOf value bytesOf first if_then_else_ isBlank filled
+needI-1-read = refl
+
+abbrev zeros : List ℕ
+zeros = replicate 16 0
+
+-- "START FILLER 03 "
+abbrev start : List ℕ
+start = 0x53 ∷ 0x54 ∷ 0x41 ∷ 0x52 ∷ 0x54 ∷ 0x20 ∷ 0x46 ∷ 0x49 ∷ 0x4C ∷ 0x4C ∷ 0x45 ∷ 0x52 ∷ 0x20 ∷ 0x30 ∷ 0x33 ∷ 0x20 ∷ []
+
+-- byte 5 and the two numbers of a packet, and its message
+abbrev laid : ℕ → List ℕ → List ℕ → List ℕ
+laid kind numbers m = (0x48 ∷ 0x53 ∷ 0x4C ∷ 0 ∷ 1 ∷ kind ∷ 0 ∷ 0 ∷ numbers) ++ m
+
+-- packets of each kind, and their bytes
+abbrev packets : List (Packet × List ℕ)
+packets =
+    (record { head = NeedI (record { 0 = 0xFFFFFFFF }); message = zeros }, laid 1 (0xFF ∷ 0xFF ∷ 0xFF ∷ 0xFF ∷ 0 ∷ 0 ∷ 0 ∷ 0 ∷ []) zeros)
+    ∷ (record { head = Offer (record { 0 = 0x01020304 }) (record { 0 = 0xFFFFFFFF }); message = zeros }, laid 2 (1 ∷ 2 ∷ 3 ∷ 4 ∷ 0xFF ∷ 0xFF ∷ 0xFF ∷ 0xFF ∷ []) zeros)
+    ∷ (record { head = Data (record { 0 = 0xFFFFFFFF }); message = start }, laid 3 (0xFF ∷ 0xFF ∷ 0xFF ∷ 0xFF ∷ 0 ∷ 0 ∷ 0 ∷ 0 ∷ []) start)
+    ∷ (record { head = Data (record { 0 = 1 }); message = spaces }, laid 3 (0 ∷ 0 ∷ 0 ∷ 1 ∷ 0 ∷ 0 ∷ 0 ∷ 0 ∷ []) spaces)
+    ∷ (record { head = Data (record { 0 = 1 }); message = replicate 16 0x7E }, laid 3 (0 ∷ 0 ∷ 0 ∷ 1 ∷ 0 ∷ 0 ∷ 0 ∷ 0 ∷ []) (replicate 16 0x7E))
+    ∷ (record { head = Ok (record { 0 = 5 }); message = zeros }, laid 4 (0 ∷ 0 ∷ 0 ∷ 5 ∷ 0 ∷ 0 ∷ 0 ∷ 0 ∷ []) zeros)
+    ∷ (record { head = Lost (record { 0 = 256 }); message = zeros }, laid 5 (0 ∷ 0 ∷ 1 ∷ 0 ∷ 0 ∷ 0 ∷ 0 ∷ 0 ∷ []) zeros)
+    ∷ (record { head = Done (record { 0 = 65536 }); message = zeros }, laid 6 (0 ∷ 1 ∷ 0 ∷ 0 ∷ 0 ∷ 0 ∷ 0 ∷ 0 ∷ []) zeros)
+    ∷ []
+
+packets-written : map (λ (v : Packet × List ℕ). packetWritten (replicate 32 7) (v .0)) packets ≡ map (λ (v : Packet × List ℕ). v .1) packets
+unfolding packetWritten writeRefusal fits packetBytes bytesOf first if_then_else_ isBlank isMessage cells filled
+packets-written = refl
+
+packets-read : map (λ (v : Packet × List ℕ). packetRead (v .1)) packets ≡ map (λ (v : Packet × List ℕ). accepted (v .0)) packets
+unfolding packetRead readRefusal headAt headOf value bytesOf first if_then_else_ isBlank isMessage cells filled
+packets-read = refl
+
+-- bytes that are refused, and their first refusal
+abbrev refusals : List (List ℕ × ℕ)
+refusals =
+    (take 31 needI-1, 12)
+    ∷ (needI-1 ++ (0 ∷ []), 12)
+    ∷ (set needI-1 0 0x49, 13)
+    ∷ (set needI-1 2 0x4E, 13)
+    ∷ (set (set needI-1 2 0x4E) 4 2, 13)
+    ∷ (set needI-1 3 1, 14)
+    ∷ (set (set needI-1 4 2) 5 7, 14)
+    ∷ (set needI-1 5 0, 15)
+    ∷ (set needI-1 5 7, 15)
+    ∷ (set needI-1 6 1, 15)
+    ∷ (set needI-1 7 1, 15)
+    ∷ (set needI-1 11 0, 15)
+    ∷ (set needI-1 15 1, 15)
+    ∷ (set needI-1 5 2, 15)
+    ∷ (set needI-1 31 0x20, 15)
+    ∷ (laid 3 (0 ∷ 0 ∷ 0 ∷ 1 ∷ 0 ∷ 0 ∷ 0 ∷ 0 ∷ []) (set spaces 15 0x1F), 15)
+    ∷ (laid 3 (0 ∷ 0 ∷ 0 ∷ 1 ∷ 0 ∷ 0 ∷ 0 ∷ 0 ∷ []) (set spaces 0 0x7F), 15)
+    ∷ []
+
+packets-refused : map (λ (v : List ℕ × ℕ). packetRead (v .0)) refusals ≡ map (λ (v : List ℕ × ℕ). refused (v .1)) refusals
+unfolding packetRead readRefusal headAt headOf value bytesOf first if_then_else_ isBlank isMessage cells filled
+packets-refused = refl
+
+-- packets that can't be written, to 32 bytes and to 31
+abbrev unfit : List Packet
+unfit =
+    needI 0
+    ∷ record { head = Offer (record { 0 = 1 }) (record { 0 = 0 }); message = zeros }
+    ∷ record { head = Data (record { 0 = 1 }); message = zeros }
+    ∷ record { head = Ok (record { 0 = 1 }); message = spaces }
+    ∷ []
+
+unfit-15 : map (writeRefusal 32) unfit ≡ replicate 4 15
+unfolding writeRefusal fits first if_then_else_ isBlank isMessage cells filled
+unfit-15 = refl
+
+unfit-12 : map (writeRefusal 31) unfit ≡ replicate 4 12
+unfolding writeRefusal first if_then_else_
+unfit-12 = refl
+
+-- records of both ends, and their bytes
+abbrev records : List (LastUsed × List ℕ)
+records =
+    (Console (record { 0 = 0 }), 0x48 ∷ 0x53 ∷ 0x4E ∷ 0 ∷ 1 ∷ 1 ∷ 0 ∷ 0 ∷ 0 ∷ 0 ∷ 0 ∷ 0 ∷ [])
+    ∷ (Console (record { 0 = 0xFFFFFFFF }), 0x48 ∷ 0x53 ∷ 0x4E ∷ 0 ∷ 1 ∷ 1 ∷ 0 ∷ 0 ∷ 0xFF ∷ 0xFF ∷ 0xFF ∷ 0xFF ∷ [])
+    ∷ (Controller (record { 0 = 1 }), 0x48 ∷ 0x53 ∷ 0x4E ∷ 0 ∷ 1 ∷ 2 ∷ 0 ∷ 0 ∷ 0 ∷ 0 ∷ 0 ∷ 1 ∷ [])
+    ∷ []
+
+records-written : map (λ (v : LastUsed × List ℕ). recordWritten (replicate 12 7) (v .0)) records ≡ map (λ (v : LastUsed × List ℕ). v .1) records
+unfolding recordWritten recordWriteRefusal recordBytes bytesOf first if_then_else_
+records-written = refl
+
+records-read : map (λ (v : LastUsed × List ℕ). recordRead (v .1)) records ≡ map (λ (v : LastUsed × List ℕ). Is (v .0)) records
+unfolding recordRead recordRefusal lastUsedAt lastUsedOf value bytesOf first if_then_else_
+records-read = refl
+
+-- records that are refused
+abbrev unused : List ℕ
+unused = 0x48 ∷ 0x53 ∷ 0x4E ∷ 0 ∷ 1 ∷ 1 ∷ replicate 6 0
+
+abbrev record-refusals : List (List ℕ × ℕ)
+record-refusals =
+    (take 11 unused, 12)
+    ∷ (unused ++ (0 ∷ []), 12)
+    ∷ (set unused 2 0x4C, 13)
+    ∷ (set unused 4 2, 14)
+    ∷ (set unused 5 0, 15)
+    ∷ (set unused 5 3, 15)
+    ∷ (set unused 7 1, 15)
+    ∷ []
+
+records-refused : map (λ (v : List ℕ × ℕ). recordRead (v .0)) record-refusals ≡ map (λ (v : List ℕ × ℕ). Refused (v .1)) record-refusals
+unfolding recordRead recordRefusal lastUsedAt lastUsedOf value bytesOf first if_then_else_
+records-refused = refl

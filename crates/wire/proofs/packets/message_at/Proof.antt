@@ -1,0 +1,17 @@
+-- `wire::packets::message_at` meets its contract: what is copied over all of the array is the message.
+use borrow.Author.Needs.{needs}
+use Rattle.wire.proofs.Reading.{message-copied}
+use Rattle.wire.proofs.packets.message_at.Statement.{statement}
+use Rattle.wire.proofs.packets.message_at.Tie as tie
+
+pub message-at-spec : {M : Type 1} → statement M
+message-at-spec =
+    tie.close
+    (tie.spec
+    (λ c. search needs)
+    (λ c. search needs)
+    (λ c. search needs)
+    (λ c. search needs)
+    (λ c κs. search needs)
+    (λ c. search (message-copied, needs))
+    )

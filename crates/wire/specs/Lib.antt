@@ -1,0 +1,4 @@
+pub mod Frame
+pub mod Number
+pub mod Packet
+pub mod Record

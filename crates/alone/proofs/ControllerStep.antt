@@ -1,0 +1,43 @@
+-- A controller's step with the message of the packet in beside it: what the rules say of messages of one value, said of the message itself.
+use Prim.Native.Nat.{ℕ}
+use mathlib.Core.Path.{_≡_, sym, ap, _∙_}
+use mathlib.Core.Option.{none}
+use mathlib.Core.List.{List}
+use borrow.Author.Tests.{ne-eqb, eq-eqb}
+use Rattle.ground.specs.Choice.{if_then_else_}
+use Rattle.ground.specs.First.{refusal}
+use Rattle.protocol.specs.Supply.{counted}
+use Rattle.protocol.specs.Ends as rules
+use Rattle.protocol.specs.Relabel.{in-controller-act, in-controller-acted}
+use Rattle.protocol.proofs.Relabel.{nat-controller-acts, nat-controller-step}
+use Rattle.ends.specs.Means.{Beside}
+use Rattle.ends.specs.Controller.{end, act}
+use Rattle.ends.specs.declared.controller.End.{End}
+use Rattle.ends.specs.declared.controller.Act.{Act}
+use Rattle.alone.specs.ControllerWithin.{controllerActed}
+
+abbrev stepped : End → Act → List ℕ → rules.ControllerActed ℕ (List ℕ)
+stepped e a m = rules.controller-step counted (end e) (in-controller-act (λ _. m) (act a))
+
+abbrev pub refusalOf : End → Act → ℕ
+refusalOf e a = refusal (rules.controller-rules counted (end e) (act a))
+
+-- a refusal leaves the end
+beside-refused : (e : End) (a : Act) → (refusalOf e a ≡ 0 → ⊥) → rules.controller-step counted (end e) (act a) ≡ record { report = rules.refused (refusalOf e a); sent = none; after = end e }
+unfolding rules.controller-step if_then_else_
+beside-refused e a n = rw (ne-eqb (refusalOf e a) 0 n)
+
+pub step-refused : (e : End) (a : Act) (m : List ℕ) → (refusalOf e a ≡ 0 → ⊥) → stepped e a m ≡ record { report = rules.refused (refusalOf e a); sent = none; after = end e }
+step-refused e a m n =
+    nat-controller-step (λ _. m) counted (end e) (act a)
+    ∙ ap (λ (d : rules.ControllerActed ℕ Beside). in-controller-acted (λ _. m) d) (beside-refused e a n)
+
+beside-done : (e : End) (a : Act) → refusalOf e a ≡ 0 → rules.controller-step counted (end e) (act a) ≡ rules.controller-acts counted (end e) (act a)
+unfolding rules.controller-step if_then_else_
+beside-done e a z = rw (eq-eqb (refusalOf e a) 0 z)
+
+pub step-done : (e : End) (a : Act) (m : List ℕ) → refusalOf e a ≡ 0 → stepped e a m ≡ controllerActed e a m
+step-done e a m z =
+    nat-controller-step (λ _. m) counted (end e) (act a)
+    ∙ ap (λ (d : rules.ControllerActed ℕ Beside). in-controller-acted (λ _. m) d) (beside-done e a z)
+    ∙ sym (nat-controller-acts (λ _. m) counted (end e) (act a))

@@ -1,0 +1,17 @@
+use borrow.Author.Needs.{needs}
+use Rattle.alone.proofs.ConsoleAlone.{does-refused, does-done, does-writable}
+use Rattle.alone.proofs.console.does.Statement.{statement}
+use Rattle.alone.proofs.console.does.Tie as tie
+
+pub does-spec : {M : Type 1} → statement M
+does-spec =
+    tie.close
+    (tie.spec
+    (λ c κs. search needs)
+    (λ c κs. search needs)
+    (λ c κs. search needs)
+    (λ c κs. search needs)
+    (λ c. search does-refused)
+    (λ c κs. search does-writable)
+    (λ c. search needs)
+    (λ c. search does-done))

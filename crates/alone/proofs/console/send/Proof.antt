@@ -1,0 +1,19 @@
+use borrow.Author.Needs.{needs}
+use mathlib.Core.Path.{refl}
+use Rattle.protocol.specs.Ends.{absent}
+use Rattle.alone.proofs.ConsoleTold.{written-to-controller}
+use Rattle.alone.proofs.console.send.Statement.{statement}
+use Rattle.alone.proofs.console.send.Tie as tie
+
+pub send-spec : {M : Type 1} → statement M
+unfolding absent
+send-spec =
+    tie.close
+    (tie.spec
+    (λ c. search needs)
+    (λ c. search needs)
+    (λ c κs. search needs)
+    (λ c κs. search needs)
+    (λ c. rw (c .enum-told .given .1) (refl, refl))
+    (λ c. search needs)
+    (λ c. (rw (c .before .before .before .before .before .before .sent .given .1), search written-to-controller)))

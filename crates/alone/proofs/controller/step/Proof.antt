@@ -1,0 +1,25 @@
+use borrow.Author.Needs.{needs}
+use Rattle.alone.proofs.ControllerAsking.{ready}
+use Rattle.alone.proofs.ControllerAlone.{alone-refused, alone-ill, alone-does, read-as}
+use Rattle.alone.proofs.controller.step.Statement.{statement}
+use Rattle.alone.proofs.controller.step.Tie as tie
+
+pub step-spec : {M : Type 1} → statement M
+step-spec =
+    tie.close
+    (tie.spec
+    (λ c κs. search needs)
+    (λ c κs. search needs)
+    (λ c. search needs)
+    (λ c κs. search needs)
+    (λ c κs. search needs)
+    (λ c κs. search needs)
+    (λ c. search needs)
+    (λ c. search needs)
+    (λ c κs. search needs)
+    (λ c. search needs)
+    (λ c κs. (search read-as, search ready))
+    (λ c. search alone-refused)
+    (λ c. search alone-ill)
+    (λ c. search needs)
+    (λ c. search alone-does))

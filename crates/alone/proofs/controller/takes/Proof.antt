@@ -1,0 +1,20 @@
+use borrow.Author.Needs.{needs}
+use Rattle.alone.proofs.controller.takes.Statement.{statement}
+use Rattle.alone.proofs.controller.takes.Tie as tie
+
+pub takes-spec : {M : Type 1} → statement M
+takes-spec =
+    tie.close
+    (tie.spec
+    (λ c. search needs)
+    (λ c. search needs)
+    (λ c. search needs)
+    (λ c. search needs)
+    (λ c. search needs)
+    (λ c. search needs)
+    (λ c. rw (c .before .head .given .1))
+    (λ c. search needs)
+    (λ c. rw (c .before .head2 .given .1))
+    (λ c. search needs)
+    (λ c. search needs)
+    (λ c. rw (c .before .head3 .given .1)))

@@ -1,0 +1,5 @@
+pub mod Alone
+pub mod ConsoleAlone
+pub mod ConsoleWithin
+pub mod ControllerAlone
+pub mod ControllerWithin

@@ -1,0 +1,12 @@
+use borrow.Author.Needs.{needs}
+use Rattle.protocol.specs.Ends.{console-acts, console-turn, end-after, numbers-after, up-after}
+use Rattle.ends.proofs.console.comes_back.Statement.{statement}
+use Rattle.ends.proofs.console.comes_back.Tie as tie
+
+pub comes-back-spec : {M : Type 1} → statement M
+unfolding console-acts console-turn end-after numbers-after up-after
+comes-back-spec =
+    tie.close
+    (tie.spec
+    (λ c κs. search needs)
+    (λ c. c .stays .ensures))

@@ -1,0 +1,13 @@
+use borrow.Author.Needs.{needs}
+use Rattle.ends.proofs.ConsoleActs.{puts-spent, puts-next}
+use Rattle.ends.proofs.console.puts.Statement.{statement}
+use Rattle.ends.proofs.console.puts.Tie as tie
+
+pub puts-spec : {M : Type 1} → statement M
+puts-spec =
+    tie.close
+    (tie.spec
+    (λ c κs. search needs)
+    (λ c. search puts-spent)
+    (λ c. search needs)
+    (λ c. search puts-next))

@@ -1,0 +1,22 @@
+use borrow.Author.Needs.{needs}
+use Rattle.ground.specs.Choice.{if_then_else_}
+use Rattle.protocol.specs.Ends.{console-takes}
+use borrow.Author.Tests.{eq-eqb, ne-eqb}
+use Rattle.ends.proofs.console.takes_ok.Statement.{statement}
+use Rattle.ends.proofs.console.takes_ok.Tie as tie
+
+pub takes-ok-spec : {M : Type 1} → statement M
+unfolding console-takes if_then_else_
+takes-ok-spec =
+    tie.close
+    (tie.spec
+    (λ c. search needs)
+    (λ c κs. search needs)
+    (λ c. search needs)
+    (λ c κs. search needs)
+    (λ c. search needs)
+    (λ c κs. search needs)
+    (λ c. rw (c .before .enum-told .given .1) (c .sends-done .ensures))
+    (λ c. rw (c .before .before .now .given .1) (c .sends-done2 .ensures))
+    (λ c. rw (c .before .before .before .before .now2 .given .1, eq-eqb _ _ (c .if1 .taken)))
+    (λ c. rw (c .before .before .before .before .before .now2 .given .1, ne-eqb _ _ (c .before .if1 .left)) (c .sends-done3 .ensures)))

@@ -1,0 +1,11 @@
+use borrow.Author.Needs.{needs}
+use Rattle.ends.proofs.ControllerActs.{goes-down}
+use Rattle.ends.proofs.controller.goes_down.Statement.{statement}
+use Rattle.ends.proofs.controller.goes_down.Tie as tie
+
+pub goes-down-spec : {M : Type 1} → statement M
+goes-down-spec =
+    tie.close
+    (tie.spec
+    (λ c κs. search needs)
+    (λ c. search goes-down))

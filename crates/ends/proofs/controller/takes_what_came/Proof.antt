@@ -1,0 +1,15 @@
+use borrow.Author.Needs.{needs}
+use Rattle.ends.proofs.ControllerActs.{takes-none}
+use Rattle.ends.proofs.controller.takes_what_came.Statement.{statement}
+use Rattle.ends.proofs.controller.takes_what_came.Tie as tie
+
+pub takes-what-came-spec : {M : Type 1} → statement M
+takes-what-came-spec =
+    tie.close
+    (tie.spec
+    (λ c. search needs)
+    (λ c κs. search needs)
+    (λ c. search needs)
+    (λ c κs. search needs)
+    (λ c. rw (c .before .enum-told .given .1) (takes-none _ (c .stays .ensures)))
+    (λ c. rw (c .before .before .p .given .1) (c .takes .ensures)))

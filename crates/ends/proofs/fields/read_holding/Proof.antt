@@ -1,0 +1,19 @@
+use borrow.Author.Needs.{needs}
+use Rattle.ends.proofs.ConsoleFields.{holding}
+use Rattle.ends.proofs.fields.read_holding.Statement.{statement}
+use Rattle.ends.proofs.fields.read_holding.Tie as tie
+
+pub read-holding-spec : {M : Type 1} → statement M
+read-holding-spec =
+    tie.close
+    (tie.spec
+    (λ c. search needs)
+    (λ c κs. search needs)
+    (λ c. search (holding, needs))
+    (λ c. search (holding, needs))
+    (λ c κs. search needs)
+    (λ c. search (holding, needs))
+    (λ c. search (holding, needs))
+    (λ c. search (holding, needs))
+    (λ c κs. search needs)
+    (λ c. search (holding, needs)))

@@ -1,0 +1,264 @@
+// The two ends as document 01 has them: fields, 0 for none.
+use crate::console;
+use crate::controller;
+use wire::I;
+use wire::J;
+ghost use mathlib.Core.Path.{_≡_};
+ghost use mathlib.Core.Bool.{true, false};
+ghost use Rattle.ends.specs.Fields.{consoleRead, consoleFields, freshConsole, downedConsole};
+ghost use Rattle.ends.specs.Fields.{controllerRead, controllerFields, freshController, downedController};
+
+pub struct Console {
+    pub used: J,
+    pub held: bool,
+    pub message: [u8; 16],
+    pub j: J,
+    pub last: I,
+    pub up: bool,
+}
+
+pub enum ConsoleRead {
+    IllFormed,
+    Is(console::End),
+}
+
+fn console_is(c: Console, mode: console::Mode) -> ConsoleRead
+    ensures { λ r. ⌜ r ≡ ConsoleRead.Is (record { used = c .used; mode = mode; up = c .up }) ⌝ }
+{
+    let used = c.used;
+    let up = c.up;
+    ConsoleRead::Is(console::End { used, mode, up })
+}
+
+fn read_holding(c: Console) -> ConsoleRead
+    requires { ⌜ c .held ≡ true ⌝ }
+    ensures { λ r. ⌜ r ≡ consoleRead c ⌝ }
+{
+    let m = c.message;
+    let j = c.j;
+    let last = c.last;
+    if !ground::all_cells(&m) {
+        return ConsoleRead::IllFormed;
+    }
+    if j.0 == 0 {
+        if last.0 == 0 {
+            return ConsoleRead::IllFormed;
+        }
+        return console_is(c, console::Mode::Send(last));
+    }
+    if last.0 != 0 {
+        return ConsoleRead::IllFormed;
+    }
+    if c.used.0 < j.0 {
+        return ConsoleRead::IllFormed;
+    }
+    console_is(c, console::Mode::NeedI(j))
+}
+
+fn read_idle(c: Console) -> ConsoleRead
+    requires { ⌜ c .held ≡ false ⌝ }
+    ensures { λ r. ⌜ r ≡ consoleRead c ⌝ }
+{
+    let m = c.message;
+    if c.j.0 != 0 {
+        return ConsoleRead::IllFormed;
+    }
+    if c.last.0 != 0 {
+        return ConsoleRead::IllFormed;
+    }
+    if !ground::all_are(&m, 0x20) {
+        return ConsoleRead::IllFormed;
+    }
+    console_is(c, console::Mode::Idle)
+}
+
+// A console's end, where its fields are well formed.
+pub fn read_console(c: Console) -> ConsoleRead
+    ensures { λ r. ⌜ r ≡ consoleRead c ⌝ }
+{
+    if c.held {
+        read_holding(c)
+    } else {
+        read_idle(c)
+    }
+}
+
+// The fields of an end that holds `message`, if it holds one.
+pub fn console_of(e: console::End, message: [u8; 16]) -> Console
+    ensures { λ r. ⌜ r ≡ consoleFields e message ⌝ }
+{
+    let used = e.used;
+    let up = e.up;
+    let mode = e.mode;
+    match mode {
+        console::Mode::Idle => Console {
+            used,
+            held: false,
+            message: [0x20; 16],
+            j: J(0),
+            last: I(0),
+            up,
+        },
+        console::Mode::NeedI(j) => Console {
+            used,
+            held: true,
+            message,
+            j,
+            last: I(0),
+            up,
+        },
+        console::Mode::Send(last) => Console {
+            used,
+            held: true,
+            message,
+            j: J(0),
+            last,
+            up,
+        },
+    }
+}
+
+// Up and idle.
+pub fn fresh_console(used: J) -> Console
+    ensures { λ r. ⌜ r ≡ freshConsole used ⌝ }
+{
+    Console {
+        used,
+        held: false,
+        message: [0x20; 16],
+        j: J(0),
+        last: I(0),
+        up: true,
+    }
+}
+
+// After power loss: down, with the last used of its number record; V brings it back.
+pub fn downed_console(used: J) -> Console
+    ensures { λ r. ⌜ r ≡ downedConsole used ⌝ }
+{
+    Console {
+        used,
+        held: false,
+        message: [0x20; 16],
+        j: J(0),
+        last: I(0),
+        up: false,
+    }
+}
+
+pub struct Controller {
+    pub used: I,
+    pub j: J,
+    pub i: I,
+    pub last: I,
+    pub up: bool,
+}
+
+pub enum ControllerRead {
+    IllFormed,
+    Is(controller::End),
+}
+
+fn controller_is(c: Controller, mode: controller::Mode) -> ControllerRead
+    ensures { λ r. ⌜ r ≡ ControllerRead.Is (record { used = c .used; mode = mode; up = c .up }) ⌝ }
+{
+    let used = c.used;
+    let up = c.up;
+    ControllerRead::Is(controller::End { used, mode, up })
+}
+
+// Of a controller whose i is set.
+fn read_accepting(c: Controller) -> ControllerRead
+    requires { ⌜ (c .i .0 ≡ 0 → ⊥) ⌝ }
+    ensures { λ r. ⌜ r ≡ controllerRead c ⌝ }
+{
+    let j = c.j;
+    let i = c.i;
+    if j.0 == 0 {
+        return ControllerRead::IllFormed;
+    }
+    if c.last.0 != 0 {
+        return ControllerRead::IllFormed;
+    }
+    if c.used.0 < i.0 {
+        return ControllerRead::IllFormed;
+    }
+    controller_is(c, controller::Mode::Accept(j, i))
+}
+
+// A controller's end, where its fields are well formed.
+pub fn read_controller(c: Controller) -> ControllerRead
+    ensures { λ r. ⌜ r ≡ controllerRead c ⌝ }
+{
+    let last = c.last;
+    if c.i.0 != 0 {
+        return read_accepting(c);
+    }
+    if c.j.0 != 0 {
+        return ControllerRead::IllFormed;
+    }
+    if last.0 == 0 {
+        return controller_is(c, controller::Mode::Idle);
+    }
+    if c.used.0 < last.0 {
+        return ControllerRead::IllFormed;
+    }
+    controller_is(c, controller::Mode::Ack(last))
+}
+
+pub fn controller_of(e: controller::End) -> Controller
+    ensures { λ r. ⌜ r ≡ controllerFields e ⌝ }
+{
+    let used = e.used;
+    let up = e.up;
+    let mode = e.mode;
+    match mode {
+        controller::Mode::Idle => Controller {
+            used,
+            j: J(0),
+            i: I(0),
+            last: I(0),
+            up,
+        },
+        controller::Mode::Accept(j, i) => Controller {
+            used,
+            j,
+            i,
+            last: I(0),
+            up,
+        },
+        controller::Mode::Ack(last) => Controller {
+            used,
+            j: J(0),
+            i: I(0),
+            last,
+            up,
+        },
+    }
+}
+
+// Up and idle.
+pub fn fresh_controller(used: I) -> Controller
+    ensures { λ r. ⌜ r ≡ freshController used ⌝ }
+{
+    Controller {
+        used,
+        j: J(0),
+        i: I(0),
+        last: I(0),
+        up: true,
+    }
+}
+
+// After power loss: down, with the last used of its number record; Y brings it back.
+pub fn downed_controller(used: I) -> Controller
+    ensures { λ r. ⌜ r ≡ downedController used ⌝ }
+{
+    Controller {
+        used,
+        j: J(0),
+        i: I(0),
+        last: I(0),
+        up: false,
+    }
+}

@@ -1,0 +1,37 @@
+-- What the rules' letters and lines are in the code. Assumes nothing.
+use mathlib.Core.Option.{Option, none, some}
+use Rattle.protocol.specs.Letters as rules
+use Rattle.letters.specs.declared.Letter.{Letter}
+use Rattle.letters.specs.declared.Letter.the-variants as code
+use Rattle.letters.specs.declared.Line.{Line}
+use Rattle.letters.specs.declared.Found.{Found}
+use Rattle.letters.specs.declared.Found.the-variants as found
+
+abbrev pub letterOf : rules.Letter → Letter
+letterOf rules.P-put = code.P
+letterOf rules.Q-need = code.Q
+letterOf rules.D-data = code.D
+letterOf rules.S-take = code.S
+letterOf rules.C-down = code.C
+letterOf rules.V-back = code.V
+letterOf rules.O-offer = code.O
+letterOf rules.K-ok = code.K
+letterOf rules.R-take = code.R
+letterOf rules.X-down = code.X
+letterOf rules.Y-back = code.Y
+letterOf rules.L-lose = code.L
+letterOf rules.M-lose = code.M
+
+unfoldable pub lineOf : rules.Letter → Line
+lineOf l =
+    record {
+      byte = rules.line l .byte;
+      letter = letterOf l;
+      place = rules.line l .place;
+      copies = rules.line l .copies;
+      message = rules.line l .message;
+    }
+
+abbrev pub foundOf : Option rules.Letter → Found
+foundOf none = found.Nothing
+foundOf (some l) = found.Line (lineOf l)

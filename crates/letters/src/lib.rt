@@ -1,0 +1,143 @@
+// The thirteen letters and the fields that each uses, as document 01's table has them.
+ghost use mathlib.Core.Path.{_≡_};
+ghost use Rattle.protocol.specs.Letters.{letter};
+ghost use Rattle.letters.specs.Lines.{foundOf};
+
+pub enum Letter {
+    P,
+    Q,
+    D,
+    S,
+    C,
+    V,
+    O,
+    K,
+    R,
+    X,
+    Y,
+    L,
+    M,
+}
+
+// A letter, its byte, and whether it uses the place, the copies and the message.
+pub struct Line {
+    pub byte: u8,
+    pub letter: Letter,
+    pub place: bool,
+    pub copies: bool,
+    pub message: bool,
+}
+
+pub enum Found {
+    Line(Line),
+    Nothing,
+}
+
+pub const LINES: [Line; 13] = [
+    Line {
+        byte: b'P',
+        letter: Letter::P,
+        place: false,
+        copies: false,
+        message: true,
+    },
+    Line {
+        byte: b'Q',
+        letter: Letter::Q,
+        place: false,
+        copies: true,
+        message: false,
+    },
+    Line {
+        byte: b'D',
+        letter: Letter::D,
+        place: false,
+        copies: true,
+        message: false,
+    },
+    Line {
+        byte: b'S',
+        letter: Letter::S,
+        place: true,
+        copies: true,
+        message: false,
+    },
+    Line {
+        byte: b'C',
+        letter: Letter::C,
+        place: false,
+        copies: false,
+        message: false,
+    },
+    Line {
+        byte: b'V',
+        letter: Letter::V,
+        place: false,
+        copies: false,
+        message: false,
+    },
+    Line {
+        byte: b'O',
+        letter: Letter::O,
+        place: false,
+        copies: true,
+        message: false,
+    },
+    Line {
+        byte: b'K',
+        letter: Letter::K,
+        place: false,
+        copies: true,
+        message: false,
+    },
+    Line {
+        byte: b'R',
+        letter: Letter::R,
+        place: true,
+        copies: true,
+        message: false,
+    },
+    Line {
+        byte: b'X',
+        letter: Letter::X,
+        place: false,
+        copies: false,
+        message: false,
+    },
+    Line {
+        byte: b'Y',
+        letter: Letter::Y,
+        place: false,
+        copies: false,
+        message: false,
+    },
+    Line {
+        byte: b'L',
+        letter: Letter::L,
+        place: true,
+        copies: false,
+        message: false,
+    },
+    Line {
+        byte: b'M',
+        letter: Letter::M,
+        place: true,
+        copies: false,
+        message: false,
+    },
+];
+
+// The line of a byte; Nothing: no action has this letter.
+pub fn find(byte: u8) -> Found
+    ensures { λ r. ⌜ r ≡ foundOf (letter byte) ⌝ }
+{
+    let mut k = 0;
+    while k < 13 {
+        let line = LINES[k];
+        if line.byte == byte {
+            return Found::Line(line);
+        }
+        k += 1;
+    }
+    Found::Nothing
+}

@@ -1,0 +1,25 @@
+use borrow.Author.Needs.{needs}
+use Rattle.channels.proofs.Taking.{takes}
+use Rattle.channels.proofs.change.take_out.Statement.{statement}
+use Rattle.channels.proofs.change.take_out.Tie as tie
+
+pub take-out-spec : {M : Type 1} → statement M
+take-out-spec =
+    tie.close
+    (tie.spec
+    (λ c. search takes)
+    (λ c. search takes)
+    (λ c. search takes)
+    (λ c. search needs)
+    (λ c. search needs)
+    (λ c. search needs)
+    (λ c. search needs)
+    (λ c. search needs)
+    (λ c κs. search needs)
+    (λ c. search needs)
+    (λ c. search needs)
+    (λ c. search needs)
+    (λ c. search needs)
+    (λ c κs. search needs)
+    (λ c. search needs)
+    (λ c. search takes))

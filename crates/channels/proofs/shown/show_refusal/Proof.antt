@@ -1,0 +1,16 @@
+use borrow.Author.Needs.{needs}
+use Rattle.channels.proofs.Showing.{show-refusals}
+use Rattle.channels.proofs.shown.show_refusal.Statement.{statement}
+use Rattle.channels.proofs.shown.show_refusal.Tie as tie
+
+pub show-refusal-spec : {M : Type 1} → statement M
+show-refusal-spec =
+    tie.close
+    (tie.spec
+    (λ c. search show-refusals)
+    (λ c. search show-refusals)
+    (λ c. search show-refusals)
+    (λ c. search show-refusals)
+    (λ c κs. search needs)
+    (λ c. search show-refusals)
+    (λ c. search show-refusals))

@@ -1,7 +1,9 @@
 #!/bin/sh
 # Each must-fail edit was refused because a fact no longer holds, and not because its proof file no longer fits the code:
-# that shows as a name or a place that can't be found. Reads the logs that `rt ci` left.
+# that shows as a name or a place that can't be found, or as code that the prover doesn't cover. Reads the logs that
+# `rt ci` left.
 set -u
+signs='has no `|is not a field|unknown name|is not in scope|can be named from here|does not cover this function'
 passed=0
 failed=0
 for edit in crates/*/must-fail/*.edit; do
@@ -11,9 +13,9 @@ for edit in crates/*/must-fail/*.edit; do
     if [ ! -s "$log" ]; then
         echo "$crate/$label: no log"
         failed=$((failed + 1))
-    elif grep -qE 'has no `|is not a field|unknown name|is not in scope|can be named from here' "$log"; then
-        echo "$crate/$label: refused for want of a name, which shows nothing:"
-        grep -m 1 -E 'has no `|is not a field|unknown name|is not in scope|can be named from here' "$log"
+    elif grep -qE "$signs" "$log"; then
+        echo "$crate/$label: refused for its shape, which shows nothing:"
+        grep -m 1 -E "$signs" "$log"
         failed=$((failed + 1))
     else
         passed=$((passed + 1))

@@ -10,4 +10,5 @@ pub mod ControllerStep
 pub mod ControllerTold
 pub mod Determined
 pub mod Told
+pub mod Vectors
 pub mod Wrong

@@ -10,7 +10,7 @@ use Rattle.ground.specs.Choice.{if_then_else_}
 use Rattle.ground.specs.First.{refusal}
 use Rattle.protocol.specs.Supply.{Supply}
 use Rattle.protocol.specs.Letters.{Letter, P-put, Q-need, D-data, S-take, C-down, V-back, O-offer, K-ok, R-take, X-down, Y-back, L-lose, M-lose}
-use Rattle.protocol.specs.Ends.{ControllerActed, ConsoleActed, ControllerTurn, ConsoleTurn, ToController, needI, order, done, ToConsole, offer}
+use Rattle.protocol.specs.Ends.{ControllerTurn, ConsoleTurn, ToController, needI, order, done, ToConsole, offer}
 use Rattle.protocol.specs.Ends.{ok, lost, ConsoleMode, in-needI, in-send, ControllerMode, in-accept, in-ack, Console, Controller, ConsoleAct}
 use Rattle.protocol.specs.Ends.{put, send-needI, send-data, ControllerAct, send-offer, send-ok, puts, needI-sent, data-sent, console-takes}
 use Rattle.protocol.specs.Ends.{controller-takes, console-turn, controller-turn, console-power, controller-power, end-after, absent, holding}

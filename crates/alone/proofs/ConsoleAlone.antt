@@ -10,13 +10,11 @@ use Rattle.ground.specs.Cell.{isMessage}
 use Rattle.ground.specs.First.{refusal}
 use Rattle.protocol.specs.Supply.{counted}
 use Rattle.protocol.specs.Ends as rules
-use Rattle.protocol.specs.Relabel.{in-console}
 use Rattle.ends.specs.Means.{tested}
 use Rattle.ends.specs.Console.{end, act}
-use Rattle.ends.specs.Fields.{consoleOk, consoleRead, consoleEnd, consoleWith}
-use Rattle.ends.proofs.ConsoleFields.{fields-back, was-read}
-use Rattle.ends.specs.declared.console.Mode.{Mode}
-use Rattle.ends.specs.declared.console.Mode.the-variants.{Idle, NeedI, Send}
+use Rattle.ends.specs.Fields.{consoleOk, consoleRead, consoleEnd}
+use Rattle.ends.proofs.ConsoleFields.{was-read}
+use Rattle.ends.proofs.Telling.{unchanged}
 use Rattle.ends.specs.declared.console.End.{End}
 use Rattle.ends.specs.declared.console.Act.{Act}
 use Rattle.ends.specs.declared.console.Act.the-variants.{Put, SendNeedI, SendData, Take, GoDown, ComeBack}
@@ -32,10 +30,11 @@ use Rattle.protocol.specs.Letters.{letter}
 use Rattle.letters.specs.Lines.{foundOf}
 use Rattle.alone.specs.declared.console.ConsoleOutcome.{ConsoleOutcome}
 use Rattle.alone.specs.Alone.{Writable, early}
-use Rattle.alone.specs.ConsoleAlone.{consoleMeans, consoleBack, ConsoleAlone, consoleStepped, consoleTold, consoleAsked, consoleDoes, consoleAlone}
-use Rattle.alone.specs.ConsoleWithin.{Ready, looked, consoleActed, wasRead}
+use Rattle.alone.specs.ConsoleAlone.{ConsoleAlone, consoleStepped, consoleTold, consoleAsked, consoleDoes, consoleAlone}
+use Rattle.alone.specs.ConsoleWithin.{Ready, looked, wasRead}
+use Rattle.ends.specs.InRules.{consoleActed}
 use Rattle.ends.specs.Packets.{toControllerPacket}
-use Rattle.alone.proofs.ConsoleStep.{refusalOf, step-done, step-refused}
+use Rattle.ends.proofs.ConsoleBeside.{refusalOf, step-done, step-refused}
 use Rattle.alone.proofs.ConsoleReady.{can-write}
 
 -- a test of a message that no put looks at is without effect
@@ -47,15 +46,6 @@ same-looked e SendData good = refl
 same-looked e (Take p) good = refl
 same-looked e GoDown good = refl
 same-looked e ComeBack good = refl
-
--- the fields of a well-formed console, by way of the rules
-fields-of : (u : ℕ) (k : Mode) (up : Bool) (m : List ℕ) → consoleBack (in-console (λ _. m) (end (record { used = record { 0 = u }; mode = k; up = up }))) ≡ consoleWith (record { 0 = u }) k up m
-fields-of u Idle up m = refl
-fields-of u (NeedI j) up m = refl
-fields-of u (Send l) up m = refl
-
-unchanged : (c : Console) → length (c .message) ≡ 16 → consoleOk c ≡ true → consoleBack (consoleMeans c) ≡ c
-unchanged c long ok = fields-of (c .used .0) (consoleEnd c .mode) (c .up) (c .message) ∙ fields-back c long ok
 
 module _ {n : ℕ} {good : Bool} (c : Console) (e : End) (a : Act) (m : List ℕ) (read : consoleRead c ≡ Is e) (tests : good ≡ looked a (isMessage m)) (refuses : n ≡ refusal (rules.console-rules counted (tested good) (end e) (act a))) where
   number-is : n ≡ refusalOf (consoleEnd c) a m

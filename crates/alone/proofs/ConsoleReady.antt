@@ -29,10 +29,10 @@ use Rattle.ends.specs.declared.console.Act.{Act}
 use Rattle.ends.specs.declared.console.Act.the-variants.{Put, SendNeedI, SendData, Take, GoDown, ComeBack}
 use Rattle.ends.specs.declared.fields.Console.{Console}
 use Rattle.alone.specs.Alone.{Writable, Above}
-use Rattle.alone.specs.ConsoleAlone.{consoleMeans}
-use Rattle.alone.specs.ConsoleWithin.{Ready, consoleActed}
+use Rattle.ends.specs.InRules.{consoleMeans, consoleActed}
+use Rattle.alone.specs.ConsoleWithin.{Ready}
 use Rattle.ends.specs.Packets.{toControllerPacket}
-use Rattle.alone.proofs.ConsoleStep.{refusalOf, acts-kept}
+use Rattle.ends.proofs.ConsoleBeside.{refusalOf, acts-kept}
 use Rattle.alone.proofs.Told.{fitting}
 
 -- ## What a well-formed console's mode bears

@@ -7,10 +7,10 @@ use mathlib.Core.List.{List}
 use lib.ListN.{length}
 use Rattle.protocol.specs.Supply.{counted}
 use Rattle.protocol.specs.Ends as rules
-use Rattle.protocol.specs.Relabel.{in-packet, in-mode, in-console-acted}
+use Rattle.protocol.specs.Relabel.{in-packet, in-console-acted}
 use Rattle.ends.specs.Means.{Beside, toController, forController}
-use Rattle.ends.specs.Console.{modeBack, end, act, acted}
-use Rattle.ends.specs.Fields.{consoleWith, consoleFields}
+use Rattle.ends.specs.Console.{end, act, acted}
+use Rattle.ends.specs.Fields.{consoleFields}
 use Rattle.ends.proofs.ConsoleRefusals.{same-for-controller}
 use Rattle.wire.specs.Packet.{packetWritten}
 use Rattle.wire.specs.declared.Packet.{Packet}
@@ -21,20 +21,17 @@ use Rattle.ends.specs.declared.console.Acted.{Acted}
 use Rattle.ends.specs.declared.console.End.{End}
 use Rattle.ends.specs.declared.console.Act.{Act}
 use Rattle.ends.specs.declared.fields.Console.{Console}
-use Rattle.alone.proofs.Told.{written, report-told}
+use Rattle.alone.proofs.Told.{written}
+use Rattle.ends.proofs.Telling.{report-told, fields-told}
 use Rattle.alone.specs.Alone.{Writable, replied}
-use Rattle.alone.specs.ConsoleAlone.{consoleBack, consoleTold}
-use Rattle.alone.specs.ConsoleWithin.{toControllerSent, kept, consoleActed}
+use Rattle.alone.specs.ConsoleAlone.{consoleTold}
+use Rattle.ends.specs.InRules.{kept, consoleActed}
+use Rattle.alone.specs.ConsoleWithin.{toControllerSent}
 use Rattle.ends.specs.Packets.{toControllerPacket}
 
 -- what is sent to the controller and can be written is written
 pub written-to-controller : {x : List ℕ} {s : ForController} {p : ToController} {q : Packet} (m out : List ℕ) → s ≡ for-controller.Packet p → q ≡ toControllerPacket (in-packet (λ _. m) (toController p)) → Writable (toControllerSent s m) (length out) → x ≡ packetWritten out q → x ≡ replied (toControllerSent s m) out
 written-to-controller m out f g w e = rw f (written out _ (rw f at w) (rw g at e))
-
-fields-told : (n : ℕ) (x : rules.ConsoleMode Beside) (up : Bool) (k : List ℕ) → consoleWith (record { 0 = n }) (modeBack x) up k ≡ consoleBack (record { numbers = n; mode = in-mode (λ _. k) x; up = up })
-fields-told n rules.ConsoleMode.idle up k = refl
-fields-told n (rules.in-needI j m) up k = refl
-fields-told n (rules.in-send l m) up k = refl
 
 absent-told : (k : List ℕ) (s : Option (rules.ToController Beside)) → rules.absent s ≡ rules.absent (Option·map (in-packet (λ _. k)) s)
 unfolding rules.absent

@@ -30,12 +30,13 @@ use Rattle.alone.specs.declared.controller.Asked.the-variants as asked-i
 use Rattle.alone.specs.declared.controller.Request.{Request}
 use Rattle.alone.specs.declared.controller.ControllerOutcome.{ControllerOutcome}
 use Rattle.alone.specs.Alone.{Writable, early}
-use Rattle.alone.specs.ControllerAlone.{controllerMeans, controllerBack, ControllerAlone, controllerStepped, controllerTold}
-use Rattle.alone.specs.ControllerWithin.{Ready, controllerActed}
+use Rattle.alone.specs.ControllerAlone.{ControllerAlone, controllerStepped, controllerTold}
+use Rattle.alone.specs.ControllerWithin.{Ready}
+use Rattle.ends.specs.InRules.{controllerMeans, controllerBack, controllerActed}
 use Rattle.ends.specs.Packets.{toConsolePacket}
 use Rattle.alone.specs.ControllerAlone.{controllerAsked, controllerDoes, controllerAlone}
 use Rattle.alone.specs.ControllerWithin.{wasRead}
-use Rattle.alone.proofs.ControllerStep.{refusalOf, step-done, step-refused}
+use Rattle.ends.proofs.ControllerBeside.{refusalOf, step-done, step-refused}
 use Rattle.alone.proofs.ControllerReady.{can-write}
 
 -- the fields of a well-formed controller, by way of the rules

@@ -29,8 +29,8 @@ use Rattle.ends.specs.declared.controller.Act.{Act}
 use Rattle.ends.specs.declared.controller.Act.the-variants.{SendOffer, SendOk, Take, GoDown, ComeBack}
 use Rattle.ends.specs.declared.fields.Controller.{Controller}
 use Rattle.alone.specs.Alone.{Writable, Above}
-use Rattle.alone.specs.ControllerAlone.{controllerMeans}
-use Rattle.alone.specs.ControllerWithin.{Ready, controllerActed}
+use Rattle.ends.specs.InRules.{controllerMeans, controllerActed}
+use Rattle.alone.specs.ControllerWithin.{Ready}
 use Rattle.ends.specs.Packets.{toConsolePacket}
 use Rattle.alone.proofs.Told.{fitting}
 

@@ -1,6 +1,6 @@
 -- What the code tells of a controller's act is what the rules' act is told as.
 use Prim.Native.Nat.{ℕ}
-use mathlib.Core.Path.{_≡_, refl, sym, ap, _∙_, subst}
+use mathlib.Core.Path.{_≡_, sym, ap, _∙_, subst}
 use mathlib.Core.Bool.{Bool, not}
 use mathlib.Core.Option.{Option, Option·map}
 use mathlib.Core.List.{List}
@@ -9,9 +9,9 @@ use Rattle.wire.specs.Packet.{packetWritten}
 use Rattle.wire.specs.declared.Packet.{Packet}
 use Rattle.protocol.specs.Supply.{counted}
 use Rattle.protocol.specs.Ends as rules
-use Rattle.protocol.specs.Relabel.{in-report, in-controller-acted}
+use Rattle.protocol.specs.Relabel.{in-controller-acted}
 use Rattle.protocol.proofs.Relabel.{nat-controller-acts}
-use Rattle.ends.specs.Means.{Beside, toConsole, forConsole, reportBack}
+use Rattle.ends.specs.Means.{Beside, toConsole, forConsole}
 use Rattle.ends.specs.Controller.{end, act, acted}
 use Rattle.ends.specs.Fields.{controllerFields}
 use Rattle.ends.proofs.ControllerRefusals.{same-for-console}
@@ -22,22 +22,17 @@ use Rattle.ends.specs.declared.controller.Acted.{Acted}
 use Rattle.ends.specs.declared.controller.End.{End}
 use Rattle.ends.specs.declared.controller.Act.{Act}
 use Rattle.ends.specs.declared.fields.Controller.{Controller}
-use Rattle.alone.proofs.Told.{written, report-told}
+use Rattle.alone.proofs.Told.{written}
+use Rattle.ends.proofs.Telling.{report-told, delivered-told}
 use Rattle.alone.specs.Alone.{Writable, replied}
-use Rattle.alone.specs.ControllerAlone.{delivered, controllerTold}
-use Rattle.alone.specs.ControllerWithin.{toConsoleSent, deliveredBeside, controllerActed}
+use Rattle.alone.specs.ControllerAlone.{controllerTold}
+use Rattle.ends.specs.InRules.{deliveredBeside, controllerActed}
+use Rattle.alone.specs.ControllerWithin.{toConsoleSent}
 use Rattle.ends.specs.Packets.{toConsolePacket}
 
 -- what is sent to the console and can be written is written
 pub written-to-console : {x : List ℕ} {s : ForConsole} {p : ToConsole} {q : Packet} (out : List ℕ) → s ≡ for-console.Packet p → q ≡ toConsolePacket (toConsole p) → Writable (toConsoleSent s) (length out) → x ≡ packetWritten out q → x ≡ replied (toConsoleSent s) out
 written-to-console out f g w e = rw f (written out _ (rw f at w) (rw g at e))
-
-delivered-told : (k : List ℕ) (r : rules.Report Beside) → deliveredBeside (reportBack r) k ≡ delivered (in-report (λ _. k) r)
-delivered-told k rules.nothing = refl
-delivered-told k (rules.delivered m) = refl
-delivered-told k rules.answered-ok = refl
-delivered-told k rules.answered-lost = refl
-delivered-told k (rules.refused n) = refl
 
 -- the acts of the rules at messages of one value, told with the message k beside them
 told : (d : rules.ControllerActed ℕ Beside) (k reply : List ℕ)

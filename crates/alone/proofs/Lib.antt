@@ -1,12 +1,10 @@
 pub mod ConsoleAlone
 pub mod ConsoleAsking
 pub mod ConsoleReady
-pub mod ConsoleStep
 pub mod ConsoleTold
 pub mod ControllerAlone
 pub mod ControllerAsking
 pub mod ControllerReady
-pub mod ControllerStep
 pub mod ControllerTold
 pub mod Determined
 pub mod Told

@@ -1,6 +1,6 @@
 -- What both ends tell: a packet that can be written, and the report.
 use Prim.Native.Nat.{ℕ}
-use mathlib.Core.Path.{_≡_, refl, _∙_}
+use mathlib.Core.Path.{_≡_, _∙_}
 use mathlib.Core.Bool.{true}
 use mathlib.Core.List.{List}
 use lib.ListN.{length}
@@ -9,9 +9,6 @@ use Rattle.ground.specs.Choice.{if_then_else_}
 use Rattle.ground.specs.First.{first}
 use Rattle.wire.specs.Packet.{fits, packetBytes, packetWritten, writeRefusal}
 use Rattle.wire.specs.declared.Packet.{Packet}
-use Rattle.protocol.specs.Ends as rules
-use Rattle.protocol.specs.Relabel.{in-report}
-use Rattle.ends.specs.Means.{Beside, reportBack}
 
 -- a packet as its line says can be written to 32 bytes
 pub fitting : (p : Packet) → fits p ≡ true → writeRefusal 32 p ≡ 0
@@ -22,11 +19,3 @@ fitting p f = rw f
 pub written : {x : List ℕ} (out : List ℕ) (p : Packet) → writeRefusal (length out) p ≡ 0 → x ≡ packetWritten out p → x ≡ packetBytes p
 unfolding packetWritten if_then_else_
 written out p w e = e ∙ rw (eq-eqb (writeRefusal (length out) p) 0 w)
-
--- a message beside the report changes nothing of what is reported
-pub report-told : (k : List ℕ) (r : rules.Report Beside) → reportBack r ≡ reportBack (in-report (λ _. k) r)
-report-told k rules.nothing = refl
-report-told k (rules.delivered m) = refl
-report-told k rules.answered-ok = refl
-report-told k rules.answered-lost = refl
-report-told k (rules.refused n) = refl

@@ -1,11 +1,11 @@
 -- What both ends run alone share: the reply buffer, and what comes before the rules' own refusals. Assumes nothing.
+use Rattle.ground.specs.Choice.{if_then_else_}
 use Prim.Native.Nat.{ℕ, _<_}
 use mathlib.Core.Path.{_≡_}
 use mathlib.Core.Bool.{Bool, true, not}
 use mathlib.Core.Option.{Option, none, some}
-use mathlib.Core.List.{List, [], _∷_}
+use mathlib.Core.List.{[], List, _∷_}
 use lib.Dec.{eqb}
-use Rattle.ground.specs.Choice.{if_then_else_}
 use Rattle.ground.specs.First.{first}
 use Rattle.wire.specs.Packet.{packetBytes, writeRefusal}
 use Rattle.wire.specs.declared.Packet.{Packet}

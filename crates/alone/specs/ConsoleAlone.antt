@@ -1,11 +1,11 @@
 -- A console run alone: what a letter asks of it, what it tells, and what stands in the reply buffer afterwards. Assumes nothing.
+use Rattle.ground.specs.Choice.{if_then_else_}
 use Prim.Native.Nat.{ℕ}
 use mathlib.Core.Bool.{false, not}
 use mathlib.Core.Option.{Option·map}
 use mathlib.Core.List.{List}
 use lib.ListN.{length}
-use Rattle.ground.specs.Choice.{if_then_else_}
-use Rattle.ground.specs.Cell.{isMessage, spaces}
+use Rattle.ground.specs.Cell.{isMessage}
 use Rattle.wire.specs.Packet.{packetRead}
 use Rattle.wire.specs.declared.Packet.{Packet}
 use Rattle.wire.specs.declared.Head.{Head}
@@ -15,7 +15,7 @@ use Rattle.wire.specs.declared.ReadHead.the-variants as read-head
 use Rattle.protocol.specs.Supply.{counted}
 use Rattle.protocol.specs.Letters.{letter}
 use Rattle.protocol.specs.Ends as rules
-use Rattle.protocol.specs.Relabel.{in-console, in-console-act}
+use Rattle.protocol.specs.Relabel.{in-console-act}
 use Rattle.letters.specs.Lines.{foundOf}
 use Rattle.letters.specs.declared.Letter.{Letter}
 use Rattle.letters.specs.declared.Letter.the-variants as letters
@@ -24,12 +24,12 @@ use Rattle.letters.specs.declared.Found.the-variants as found
 use Rattle.ends.specs.Packets.{toControllerPacket}
 use Rattle.ends.specs.Means.{reportBack}
 use Rattle.ends.specs.Console as console
-use Rattle.ends.specs.Fields.{consoleOk, consoleEnd, consoleWith}
+use Rattle.ends.specs.Fields.{consoleOk}
+use Rattle.ends.specs.InRules.{consoleMeans, consoleBack}
 use Rattle.ends.specs.declared.ToConsole.the-variants as down
 use Rattle.ends.specs.declared.ForConsole.the-variants as for-console
 use Rattle.ends.specs.declared.console.Act.{Act}
 use Rattle.ends.specs.declared.console.Act.the-variants as act
-use Rattle.ends.specs.declared.console.Mode.the-variants as mode
 use Rattle.ends.specs.declared.Report.the-variants as report
 use Rattle.ends.specs.declared.fields.Console.{Console}
 use Rattle.alone.specs.Alone.{lent, early, replied}
@@ -71,20 +71,6 @@ consoleAsks letters.M p n = Refused 1
 abbrev pub consoleAsked : Found → ReadHead → ℕ → Asked
 consoleAsked found.Nothing p n = Refused 1
 consoleAsked (found.Line l) p n = consoleAsks (l .letter) p n
-
--- ## A console's fields in the rules, and back
-
--- the held message stands in the mode
-abbrev pub consoleMeans : Console → rules.Console ℕ (List ℕ)
-consoleMeans c = in-console (λ _. c .message) (console.end (consoleEnd c))
-
-abbrev pub consoleBack : rules.Console ℕ (List ℕ) → Console
-consoleBack e = fields (e .mode)
-  where
-    fields : rules.ConsoleMode (List ℕ) → Console
-    fields rules.ConsoleMode.idle = consoleWith (record { 0 = e .numbers }) mode.Idle (e .up) spaces
-    fields (rules.in-needI j m) = consoleWith (record { 0 = e .numbers }) (mode.NeedI (record { 0 = j })) (e .up) m
-    fields (rules.in-send last m) = consoleWith (record { 0 = e .numbers }) (mode.Send (record { 0 = last })) (e .up) m
 
 -- ## The promise
 

@@ -5,18 +5,14 @@ use mathlib.Core.Bool.{Bool, true, false}
 use mathlib.Core.Option.{Option, Option·map}
 use mathlib.Core.List.{List}
 use Rattle.wire.specs.declared.Packet.{Packet}
-use Rattle.protocol.specs.Supply.{counted}
 use Rattle.protocol.specs.Lists.{Opt}
 use Rattle.protocol.specs.Bears.{ToConsole-bears}
-use Rattle.protocol.specs.Ends as rules
-use Rattle.protocol.specs.Relabel.{in-packet, in-console-acted}
+use Rattle.protocol.specs.Relabel.{in-packet}
 use Rattle.ends.specs.Packets.{toControllerPacket}
 use Rattle.ends.specs.Means.{forConsole, forController}
-use Rattle.ends.specs.Console as console
 use Rattle.ends.specs.declared.ForController.{ForController}
 use Rattle.ends.specs.declared.console.Act.{Act}
 use Rattle.ends.specs.declared.console.Act.the-variants as act
-use Rattle.ends.specs.declared.console.End.{End}
 use Rattle.ends.specs.declared.fields.ConsoleRead.{ConsoleRead}
 use Rattle.ends.specs.declared.fields.ConsoleRead.the-variants as console-read
 use Rattle.alone.specs.Alone.{Above}
@@ -35,7 +31,7 @@ Ready (act.Take p) n = (n ≡ 32) × Opt (ToConsole-bears Above Above) (forConso
 Ready act.GoDown n = Unit {0}
 Ready act.ComeBack n = Unit {0}
 
--- a message is looked at by a put alone, and kept by it
+-- a message is looked at by a put alone
 abbrev pub looked : Act → Bool → Bool
 looked act.Put good = good
 looked act.SendNeedI good = true
@@ -44,18 +40,6 @@ looked (act.Take p) good = true
 looked act.GoDown good = true
 looked act.ComeBack good = true
 
-abbrev pub kept : Act → List ℕ → List ℕ → List ℕ
-kept act.Put m held = m
-kept act.SendNeedI m held = held
-kept act.SendData m held = held
-kept (act.Take p) m held = held
-kept act.GoDown m held = held
-kept act.ComeBack m held = held
-
 abbrev pub wasRead : ConsoleRead → Bool
 wasRead console-read.IllFormed = false
 wasRead (console-read.Is e) = true
-
--- what an act that is not refused comes to, with the message that is held before it and the one that is put
-abbrev pub consoleActed : End → List ℕ → Act → List ℕ → rules.ConsoleActed ℕ (List ℕ)
-consoleActed e held a message = in-console-acted (λ _. kept a message held) (rules.console-acts counted (console.end e) (console.act a))

@@ -1,10 +1,10 @@
 -- A controller run alone: what a letter asks of it, what it tells, and what stands in the reply buffer afterwards. Assumes nothing.
+use Rattle.ground.specs.Choice.{if_then_else_}
 use Prim.Native.Nat.{ℕ}
 use mathlib.Core.Bool.{false, not}
 use mathlib.Core.Option.{Option·map}
 use mathlib.Core.List.{List}
 use lib.ListN.{length}
-use Rattle.ground.specs.Choice.{if_then_else_}
 use Rattle.ground.specs.Cell.{spaces}
 use Rattle.wire.specs.Packet.{packetRead}
 use Rattle.wire.specs.declared.Packet.{Packet}
@@ -25,12 +25,12 @@ use Rattle.letters.specs.declared.Found.the-variants as found
 use Rattle.ends.specs.Packets.{toConsolePacket}
 use Rattle.ends.specs.Means.{reportBack}
 use Rattle.ends.specs.Controller as controller
-use Rattle.ends.specs.Fields.{controllerOk, controllerEnd, controllerWith}
+use Rattle.ends.specs.Fields.{controllerOk}
+use Rattle.ends.specs.InRules.{controllerMeans, controllerBack, delivered}
 use Rattle.ends.specs.declared.ToController.the-variants as up
 use Rattle.ends.specs.declared.ForController.the-variants as for-controller
 use Rattle.ends.specs.declared.controller.Act.{Act}
 use Rattle.ends.specs.declared.controller.Act.the-variants as act
-use Rattle.ends.specs.declared.Report.{Report}
 use Rattle.ends.specs.declared.Report.the-variants as report
 use Rattle.ends.specs.declared.fields.Controller.{Controller}
 use Rattle.alone.specs.Alone.{lent, early, replied}
@@ -84,27 +84,11 @@ abbrev pub controllerAsked : Found → ReadPacket → ℕ → Request
 controllerAsked found.Nothing p n = refusing 1
 controllerAsked (found.Line l) p n = controllerAsks (l .letter) p n
 
--- ## A controller's fields in the rules, and back
-
-abbrev pub controllerMeans : Controller → rules.Controller ℕ
-controllerMeans c = controller.end (controllerEnd c)
-
-abbrev pub controllerBack : rules.Controller ℕ → Controller
-controllerBack e = controllerWith (record { 0 = e .numbers }) (controller.modeBack (e .mode)) (e .up)
-
 -- ## The promise
 
 pub record ControllerAlone : Type 0 where
   pub outcome : ControllerOutcome
   pub reply : List ℕ
-
--- the 16 cells that are shown: those of the delivered message, else spaces
-abbrev pub delivered : rules.Report (List ℕ) → List ℕ
-delivered rules.nothing = spaces
-delivered (rules.delivered m) = m
-delivered rules.answered-ok = spaces
-delivered rules.answered-lost = spaces
-delivered (rules.refused n) = spaces
 
 abbrev pub controllerRefused : ℕ → Controller → List ℕ → ControllerAlone
 controllerRefused n c reply =

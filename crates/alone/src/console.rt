@@ -4,7 +4,7 @@ use ends::ForConsole;
 use ends::ForController;
 use ends::Report;
 use ends::ToConsole;
-use ends::ToController;
+use ends::beside::to_controller;
 use ends::console::Act;
 use ends::console::End;
 use ends::fields::Console;
@@ -24,16 +24,16 @@ ghost use Rattle.ground.specs.Cell.{isMessage};
 ghost use Rattle.wire.specs.Packet.{packetRead};
 ghost use Rattle.protocol.specs.Ends.{absent};
 ghost use Rattle.protocol.specs.Letters.{letter};
-ghost use Rattle.protocol.specs.Relabel.{in-packet};
 ghost use Rattle.letters.specs.Lines.{foundOf};
 ghost use Rattle.ends.specs.Fields.{consoleRead};
-ghost use Rattle.ends.specs.Means.{toController, forController};
+ghost use Rattle.ends.specs.Means.{forController};
 ghost use Rattle.alone.specs.Alone.{Writable, replied, lent};
 ghost use Rattle.alone.specs.ConsoleAlone.{consoleTakes, consoleHears, consoleAsks, consoleAsked};
 ghost use Rattle.alone.specs.ConsoleWithin.{toControllerSent};
 ghost use Rattle.ends.specs.Packets.{toControllerPacket};
 ghost use Rattle.alone.specs.ConsoleAlone.{consoleStepped, consoleTold, consoleAlone};
-ghost use Rattle.alone.specs.ConsoleWithin.{looked, kept, Ready, wasRead, consoleActed};
+ghost use Rattle.alone.specs.ConsoleWithin.{looked, Ready, wasRead};
+ghost use Rattle.ends.specs.InRules.{kept, consoleActed};
 
 enum Asked {
     Refused(u8),
@@ -110,26 +110,6 @@ fn letter_asks(byte: u8, packet: &[u8], room: usize) -> Asked
             let which = l.letter;
             asks(which, packet, room)
         }
-    }
-}
-
-// A packet to the controller; the message is data's.
-fn to_controller(p: ToController, message: [u8; 16]) -> Packet
-    ensures { λ r. ⌜ r ≡ toControllerPacket (in-packet (λ _. message) (toController p)) ⌝ }
-{
-    match p {
-        ToController::NeedI(j) => Packet {
-            head: Head::NeedI(j),
-            message: [0; 16],
-        },
-        ToController::Data(i) => Packet {
-            head: Head::Data(i),
-            message,
-        },
-        ToController::Done(i) => Packet {
-            head: Head::Done(i),
-            message: [0; 16],
-        },
     }
 }
 

@@ -3,8 +3,9 @@ use crate::early;
 use ends::ForConsole;
 use ends::ForController;
 use ends::Report;
-use ends::ToConsole;
 use ends::ToController;
+use ends::beside::delivers;
+use ends::beside::to_console;
 use ends::controller::Act;
 use ends::controller::End;
 use ends::fields::Controller;
@@ -26,13 +27,14 @@ ghost use Rattle.protocol.specs.Ends.{absent};
 ghost use Rattle.protocol.specs.Letters.{letter};
 ghost use Rattle.letters.specs.Lines.{foundOf};
 ghost use Rattle.ends.specs.Fields.{controllerRead};
-ghost use Rattle.ends.specs.Means.{toConsole, forConsole};
+ghost use Rattle.ends.specs.Means.{forConsole};
 ghost use Rattle.alone.specs.Alone.{Writable, replied, lent};
 ghost use Rattle.alone.specs.ControllerAlone.{bare, refusing, controllerTakes, controllerHears, controllerAsks, controllerAsked};
 ghost use Rattle.alone.specs.ControllerWithin.{toConsoleSent};
 ghost use Rattle.ends.specs.Packets.{toConsolePacket};
 ghost use Rattle.alone.specs.ControllerAlone.{controllerStepped, controllerTold, controllerAlone};
-ghost use Rattle.alone.specs.ControllerWithin.{deliveredBeside, Ready, wasRead, controllerActed};
+ghost use Rattle.alone.specs.ControllerWithin.{Ready, wasRead};
+ghost use Rattle.ends.specs.InRules.{controllerActed};
 
 enum Asked {
     Refused(u8),
@@ -138,25 +140,6 @@ fn letter_asks(byte: u8, packet: &[u8], room: usize) -> Request
     }
 }
 
-fn to_console(p: ToConsole) -> Packet
-    ensures { λ r. ⌜ r ≡ toConsolePacket (toConsole p) ⌝ }
-{
-    match p {
-        ToConsole::Offer(j, i) => Packet {
-            head: Head::Offer(j, i),
-            message: [0; 16],
-        },
-        ToConsole::Ok(i) => Packet {
-            head: Head::Ok(i),
-            message: [0; 16],
-        },
-        ToConsole::Lost(i) => Packet {
-            head: Head::Lost(i),
-            message: [0; 16],
-        },
-    }
-}
-
 // Writes what is sent, and tells whether anything is.
 fn send(sent: ForConsole, reply: &mut [u8]) -> bool
     requires { ⌜ Writable (toConsoleSent sent) (length (now reply)) ⌝ }
@@ -180,18 +163,6 @@ fn refused(n: u8, c: Controller) -> ControllerOutcome
         message: [0x20; 16],
         sent: false,
         controller: c,
-    }
-}
-
-fn delivers(report: Report, message: [u8; 16]) -> [u8; 16]
-    ensures { λ r. ⌜ r ≡ deliveredBeside report message ⌝ }
-{
-    match report {
-        Report::Nothing => [0x20; 16],
-        Report::Delivered => message,
-        Report::Ok => [0x20; 16],
-        Report::Lost => [0x20; 16],
-        Report::Refused(_) => [0x20; 16],
     }
 }
 

@@ -72,7 +72,7 @@ module _ {A : Type 0} where
   at-below (x ∷ ps) zero e = omega arith
   at-below (x ∷ ps) (suc k) e = let h = at-below ps k e in omega (arith, h)
 
-  without-beyond : (ps : List A) (k : ℕ) → length ps ≤ k → without ps k ≡ ps
+  pub without-beyond : (ps : List A) (k : ℕ) → length ps ≤ k → without ps k ≡ ps
   unfolding without
   without-beyond [] k h = refl
   without-beyond (x ∷ ps) zero h = absurd (not-suc-le-zero h)

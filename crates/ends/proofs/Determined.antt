@@ -1,6 +1,12 @@
 -- Each promise of the crate determines its answer.
 use mathlib.Core.Path.{sym, _∙_}
 use Rattle.ground.proofs.Promise.{Determined}
+use Rattle.ends.proofs.beside.to_controller.Kinds as to-controller-kinds
+use Rattle.ends.proofs.beside.to_controller.Reads as to-controller
+use Rattle.ends.proofs.beside.to_console.Kinds as to-console-kinds
+use Rattle.ends.proofs.beside.to_console.Reads as to-console
+use Rattle.ends.proofs.beside.delivers.Kinds as delivers-kinds
+use Rattle.ends.proofs.beside.delivers.Reads as delivers
 use Rattle.ends.proofs.console.acts.Kinds as console-acts-kinds
 use Rattle.ends.proofs.console.acts.Reads as console-acts
 use Rattle.ends.proofs.console.refuses.Kinds as console-refuses-kinds
@@ -61,3 +67,12 @@ downed-console-determined κs a x y s t p q = p ∙ sym q
 
 pub downed-controller-determined : Determined downed-controller-kinds.ps downed-controller-kinds.r downed-controller.Post
 downed-controller-determined κs a x y s t p q = p ∙ sym q
+
+pub to-controller-determined : Determined to-controller-kinds.ps to-controller-kinds.r to-controller.Post
+to-controller-determined κs a x y s t p q = p ∙ sym q
+
+pub to-console-determined : Determined to-console-kinds.ps to-console-kinds.r to-console.Post
+to-console-determined κs a x y s t p q = p ∙ sym q
+
+pub delivers-determined : Determined delivers-kinds.ps delivers-kinds.r delivers.Post
+delivers-determined κs a x y s t p q = p ∙ sym q

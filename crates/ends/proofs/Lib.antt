@@ -1,7 +1,10 @@
 pub mod ConsoleActs
+pub mod ConsoleBeside
 pub mod ConsoleFields
 pub mod ConsoleRefusals
 pub mod ControllerActs
+pub mod ControllerBeside
 pub mod ControllerFields
 pub mod ControllerRefusals
 pub mod Determined
+pub mod Telling

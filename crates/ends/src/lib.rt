@@ -1,5 +1,6 @@
 // The console and the controller: what runs in the two boxes. An end is read into its mode, acts on its mode as the rules say, and is
 // written back; a message stands beside the mode or head that it belongs to.
+pub mod beside;
 pub mod console;
 pub mod controller;
 pub mod fields;

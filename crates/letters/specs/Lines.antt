@@ -22,6 +22,21 @@ letterOf rules.Y-back = code.Y
 letterOf rules.L-lose = code.L
 letterOf rules.M-lose = code.M
 
+abbrev pub letterMeans : Letter → rules.Letter
+letterMeans code.P = rules.P-put
+letterMeans code.Q = rules.Q-need
+letterMeans code.D = rules.D-data
+letterMeans code.S = rules.S-take
+letterMeans code.C = rules.C-down
+letterMeans code.V = rules.V-back
+letterMeans code.O = rules.O-offer
+letterMeans code.K = rules.K-ok
+letterMeans code.R = rules.R-take
+letterMeans code.X = rules.X-down
+letterMeans code.Y = rules.Y-back
+letterMeans code.L = rules.L-lose
+letterMeans code.M = rules.M-lose
+
 unfoldable pub lineOf : rules.Letter → Line
 lineOf l =
     record {

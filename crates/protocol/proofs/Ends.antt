@@ -17,7 +17,7 @@ use Rattle.protocol.specs.Supply.{Supply, counted}
 use Rattle.protocol.specs.Ends.{ControllerActed, ConsoleActed, ToController, needI, order, done, ToConsole, offer, ok, lost, ConsoleMode}
 use Rattle.protocol.specs.Ends.{in-needI, in-send, ControllerMode, in-accept, in-ack, Console, Controller, ConsoleAct, put, send-needI}
 use Rattle.protocol.specs.Ends.{send-data, ControllerAct, send-offer, send-ok, Report, nothing, delivered, answered-ok, answered-lost, refused}
-use Rattle.protocol.specs.Ends.{Turn, puts, console-takes, controller-takes, console-turn, controller-turn, console-rules, controller-rules}
+use Rattle.protocol.specs.Ends.{ConsoleTurn, ControllerTurn, puts, console-takes, controller-takes, console-turn, controller-turn, console-rules, controller-rules}
 use Rattle.protocol.specs.Ends.{console-acts, controller-acts, console-step, controller-step}
 use Rattle.protocol.specs.Bench.{rules}
 use Rattle.protocol.proofs.Lists.{if-holds}
@@ -32,58 +32,71 @@ module _ {M : Type 0} where
   Not-refused answered-lost = Unit {0}
   Not-refused (refused n) = ⊥
 
-  abbrev Accepts : {Mode Packet : Type 0} → Turn M Mode Packet → Type 0
-  Accepts t = Not-refused (t .report)
+-- what a console reports: nothing, OK or lost
+module _ {M : Type 0} (P : Report M → Type 0) (n : P nothing) (o : P answered-ok) (l : P answered-lost) where
+  abbrev Told : ConsoleTurn M → Type 0
+  Told t = P (t .report)
 
-  puts-accepts : (next : Option ℕ) (mode : ConsoleMode M) (m : M) → Accepts (puts next mode m)
+  puts-report : (next : Option ℕ) (mode : ConsoleMode M) (m : M) → Told (puts next mode m)
   unfolding puts
-  puts-accepts none mode m = tt
-  puts-accepts (some j) mode m = tt
+  puts-report none mode m = n
+  puts-report (some j) mode m = n
 
-  console-takes-accepts : (mode : ConsoleMode M) (p : ToConsole) → Accepts (console-takes mode p)
+  console-takes-report : (mode : ConsoleMode M) (p : ToConsole) → Told (console-takes mode p)
   unfolding console-takes
-  console-takes-accepts ConsoleMode.idle (offer J I) = tt
-  console-takes-accepts (in-needI j m) (offer J I) = if-holds Accepts _ _ _ (λ e. tt) (λ e. tt)
-  console-takes-accepts (in-send last m) (offer J I) = if-holds Accepts _ _ _ (λ e. tt) (λ e. tt)
-  console-takes-accepts ConsoleMode.idle (ok I) = tt
-  console-takes-accepts (in-needI j m) (ok I) = tt
-  console-takes-accepts (in-send last m) (ok I) = if-holds Accepts _ _ _ (λ e. tt) (λ e. tt)
-  console-takes-accepts ConsoleMode.idle (lost I) = tt
-  console-takes-accepts (in-needI j m) (lost I) = tt
-  console-takes-accepts (in-send last m) (lost I) = if-holds Accepts _ _ _ (λ e. tt) (λ e. tt)
+  console-takes-report ConsoleMode.idle (offer J I) = n
+  console-takes-report (in-needI j m) (offer J I) = if-holds Told _ _ _ (λ e. n) (λ e. n)
+  console-takes-report (in-send last m) (offer J I) = if-holds Told _ _ _ (λ e. n) (λ e. n)
+  console-takes-report ConsoleMode.idle (ok I) = n
+  console-takes-report (in-needI j m) (ok I) = n
+  console-takes-report (in-send last m) (ok I) = if-holds Told _ _ _ (λ e. o) (λ e. n)
+  console-takes-report ConsoleMode.idle (lost I) = n
+  console-takes-report (in-needI j m) (lost I) = n
+  console-takes-report (in-send last m) (lost I) = if-holds Told _ _ _ (λ e. l) (λ e. n)
 
-  controller-takes-accepts : (next : Option ℕ) (mode : ControllerMode) (p : ToController M) → Accepts (controller-takes next mode p)
+  pub console-reports : {S : Type 0} (U : Supply S) (e : Console S M) (act : ConsoleAct M) → P (console-acts U e act .report)
+  unfolding console-acts console-turn
+  console-reports U e (put m) = puts-report _ _ m
+  console-reports U e send-needI = n
+  console-reports U e send-data = n
+  console-reports U e (ConsoleAct.take none) = n
+  console-reports U e (ConsoleAct.take (some p)) = console-takes-report _ p
+  console-reports U e ConsoleAct.go-down = n
+  console-reports U e ConsoleAct.come-back = n
+
+-- what a controller reports: nothing, or a message delivered
+module _ {M : Type 0} (P : Report M → Type 0) (n : P nothing) (d : (m : M) → P (delivered m)) where
+  abbrev Shown : ControllerTurn M → Type 0
+  Shown t = P (t .report)
+
+  controller-takes-report : (next : Option ℕ) (mode : ControllerMode) (p : ToController M) → Shown (controller-takes next mode p)
   unfolding controller-takes
-  controller-takes-accepts none ControllerMode.idle (needI J) = tt
-  controller-takes-accepts (some i) ControllerMode.idle (needI J) = tt
-  controller-takes-accepts next (in-accept j i) (needI J) = tt
-  controller-takes-accepts next (in-ack last) (needI J) = tt
-  controller-takes-accepts next ControllerMode.idle (order I m) = tt
-  controller-takes-accepts next (in-accept j i) (order I m) = if-holds Accepts _ _ _ (λ e. tt) (λ e. tt)
-  controller-takes-accepts next (in-ack last) (order I m) = if-holds Accepts _ _ _ (λ e. tt) (λ e. tt)
-  controller-takes-accepts next ControllerMode.idle (done I) = tt
-  controller-takes-accepts next (in-accept j i) (done I) = if-holds Accepts _ _ _ (λ e. tt) (λ e. tt)
-  controller-takes-accepts next (in-ack last) (done I) = if-holds Accepts _ _ _ (λ e. tt) (λ e. tt)
+  controller-takes-report none ControllerMode.idle (needI J) = n
+  controller-takes-report (some i) ControllerMode.idle (needI J) = n
+  controller-takes-report next (in-accept j i) (needI J) = n
+  controller-takes-report next (in-ack last) (needI J) = n
+  controller-takes-report next ControllerMode.idle (order I m) = n
+  controller-takes-report next (in-accept j i) (order I m) = if-holds Shown _ _ _ (λ e. d m) (λ e. n)
+  controller-takes-report next (in-ack last) (order I m) = if-holds Shown _ _ _ (λ e. n) (λ e. n)
+  controller-takes-report next ControllerMode.idle (done I) = n
+  controller-takes-report next (in-accept j i) (done I) = if-holds Shown _ _ _ (λ e. n) (λ e. n)
+  controller-takes-report next (in-ack last) (done I) = if-holds Shown _ _ _ (λ e. n) (λ e. n)
+
+  pub controller-reports : {S : Type 0} (U : Supply S) (e : Controller S) (act : ControllerAct M) → P (controller-acts U e act .report)
+  unfolding controller-acts controller-turn
+  controller-reports U e send-offer = n
+  controller-reports U e send-ok = n
+  controller-reports U e (ControllerAct.take none) = n
+  controller-reports U e (ControllerAct.take (some p)) = controller-takes-report _ _ p
+  controller-reports U e ControllerAct.go-down = n
+  controller-reports U e ControllerAct.come-back = n
 
 module _ {S M : Type 0} (U : Supply S) where
   pub console-acts-accepts : (e : Console S M) (act : ConsoleAct M) → Not-refused (console-acts U e act .report)
-  unfolding console-acts console-turn
-  console-acts-accepts e (put m) = puts-accepts _ _ m
-  console-acts-accepts e send-needI = tt
-  console-acts-accepts e send-data = tt
-  console-acts-accepts e (ConsoleAct.take none) = tt
-  console-acts-accepts e (ConsoleAct.take (some p)) = console-takes-accepts _ p
-  console-acts-accepts e ConsoleAct.go-down = tt
-  console-acts-accepts e ConsoleAct.come-back = tt
+  console-acts-accepts e act = console-reports Not-refused tt tt tt U e act
 
   pub controller-acts-accepts : (e : Controller S) (act : ControllerAct M) → Not-refused (controller-acts U e act .report)
-  unfolding controller-acts controller-turn
-  controller-acts-accepts e send-offer = tt
-  controller-acts-accepts e send-ok = tt
-  controller-acts-accepts e (ControllerAct.take none) = tt
-  controller-acts-accepts e (ControllerAct.take (some p)) = controller-takes-accepts _ _ p
-  controller-acts-accepts e ControllerAct.go-down = tt
-  controller-acts-accepts e ControllerAct.come-back = tt
+  controller-acts-accepts e act = controller-reports Not-refused tt (λ m. tt) U e act
 
 -- ## A refusal is reported exactly if a rule refuses
 

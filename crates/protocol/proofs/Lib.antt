@@ -14,6 +14,7 @@ pub mod Numbers
 pub mod Plain
 pub mod Refusals
 pub mod Relabel
+pub mod Stages
 pub mod Standing
 pub mod Starred
 pub mod Steps

@@ -60,33 +60,33 @@ module _ {S M : Type 0} (U : Supply S) (laws : Lawful S U) where
     abbrev Console-left : ConsoleActed S M → Type 0
     Console-left d = Console-ok U good (d .after) × Opt (To-controller-ok U good) (d .sent)
 
+    pub console-acts-ok : (act : ConsoleAct M) → refusal (console-rules U good e act) ≡ 0 → Console-ok U good e → Console-handed-ok U act
+        → Console-left (console-acts U e act)
+    console-acts-ok act q h x =
+        let d = console-acts-bears U (Sound U) (Given U) (λ _. Number U) (given-tracked U laws) (Number U) (Good good) e act (h .numbers) (h .mode) (handed-good (Number U) (Number U) act q x) in
+        (record { numbers = d .sound; mode = d .mode }, d .sent)
+
     pub console-step-ok : (act : ConsoleAct M) → Console-ok U good e → Console-handed-ok U act
         → let d = console-step U good e act in Console-ok U good (d .after) × Opt (To-controller-ok U good) (d .sent)
     unfolding console-step
     console-step-ok act h x =
         if-holds Console-left (eqb (refusal (console-rules U good e act)) 0) _ _
-        (λ q. accepted (handed-good (Number U) (Number U) act (eqb-true (refusal (console-rules U good e act)) 0 q) x)) (λ q. (h, tt))
-      where
-        accepted : ConsoleAct-bears (Number U) (Number U) (Good good) act → Console-left (console-acts U e act)
-        accepted x =
-            let d = console-acts-bears U (Sound U) (Given U) (λ _. Number U) (given-tracked U laws) (Number U) (Good good) e act (h .numbers) (h .mode) x in
-            (record { numbers = d .sound; mode = d .mode }, d .sent)
+        (λ q. console-acts-ok act (eqb-true (refusal (console-rules U good e act)) 0 q) h x) (λ q. (h, tt))
 
   module _ (good : M → Bool) (e : Controller S) where
     abbrev Controller-left : ControllerActed S M → Type 0
     Controller-left d = Controller-ok U (d .after) × Opt (To-console-ok U) (d .sent)
 
+    pub controller-acts-ok : (act : ControllerAct M) → Controller-ok U e → Controller-handed-ok U good act → Controller-left (controller-acts U e act)
+    controller-acts-ok act h x =
+        let d = controller-acts-bears U (Sound U) (Given U) (λ _. Number U) (given-tracked U laws) (Number U) (Good good) e act (h .numbers) (h .mode) x in
+        (record { numbers = d .sound; mode = d .mode }, d .sent)
+
     pub controller-step-ok : (act : ControllerAct M) → Controller-ok U e → Controller-handed-ok U good act
         → let d = controller-step U e act in Controller-ok U (d .after) × Opt (To-console-ok U) (d .sent)
     unfolding controller-step
     controller-step-ok act h x =
-        if-holds Controller-left (eqb (refusal (controller-rules U e act)) 0) _ _
-        (λ q. accepted) (λ q. (h, tt))
-      where
-        accepted : Controller-left (controller-acts U e act)
-        accepted =
-            let d = controller-acts-bears U (Sound U) (Given U) (λ _. Number U) (given-tracked U laws) (Number U) (Good good) e act (h .numbers) (h .mode) x in
-            (record { numbers = d .sound; mode = d .mode }, d .sent)
+        if-holds Controller-left (eqb (refusal (controller-rules U e act)) 0) _ _ (λ q. controller-acts-ok act h x) (λ q. (h, tt))
 
 -- ## Room in the channels
 

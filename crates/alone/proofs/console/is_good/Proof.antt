@@ -1,5 +1,5 @@
 use borrow.Author.Needs.{needs}
-use Rattle.alone.proofs.ConsoleStep.{message-tested}
+use Rattle.ends.proofs.ConsoleBeside.{message-tested}
 use Rattle.alone.proofs.console.is_good.Statement.{statement}
 use Rattle.alone.proofs.console.is_good.Tie as tie
 

@@ -1,6 +1,6 @@
 use borrow.Author.Needs.{needs}
-use Rattle.alone.proofs.controller.to_console.Statement.{statement}
-use Rattle.alone.proofs.controller.to_console.Tie as tie
+use Rattle.ends.proofs.beside.to_console.Statement.{statement}
+use Rattle.ends.proofs.beside.to_console.Tie as tie
 
 pub to-console-spec : {M : Type 1} → statement M
 to-console-spec =

@@ -1,6 +1,6 @@
 use borrow.Author.Needs.{needs}
-use Rattle.alone.proofs.console.to_controller.Statement.{statement}
-use Rattle.alone.proofs.console.to_controller.Tie as tie
+use Rattle.ends.proofs.beside.to_controller.Statement.{statement}
+use Rattle.ends.proofs.beside.to_controller.Tie as tie
 
 pub to-controller-spec : {M : Type 1} → statement M
 to-controller-spec =

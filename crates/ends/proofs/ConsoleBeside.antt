@@ -14,14 +14,14 @@ use Rattle.protocol.proofs.Refusals.{passed}
 use Rattle.protocol.specs.Ends as rules
 use Rattle.protocol.specs.Relabel.{in-console, in-console-act, in-console-acted}
 use Rattle.protocol.proofs.Relabel.{nat-console-acts}
 use Rattle.ends.specs.Means.{tested}
-use Rattle.alone.specs.ConsoleWithin.{kept}
+use Rattle.ends.specs.InRules.{kept}
 use Rattle.ends.specs.Console.{mode, end, act}
 use Rattle.ends.specs.declared.console.Mode.{Mode}
 use Rattle.ends.specs.declared.console.Mode.the-variants.{Idle, NeedI, Send}
 use Rattle.ends.specs.declared.console.End.{End}
 use Rattle.ends.specs.declared.console.Act.{Act}
 use Rattle.ends.specs.declared.console.Act.the-variants.{Put, SendNeedI, SendData, Take, GoDown, ComeBack}
 
 -- 16 bytes that are cells are a message
 pub message-tested : {r : Bool} (m : List ℕ) → length m ≡ 16 → r ≡ cells m → r ≡ isMessage m
@@ -50,7 +50,7 @@ same-rules u k up h (Take p) m = refl
 same-rules u k up h GoDown m = refl
 same-rules u k up h ComeBack m = refl
 
-same-refusal : (e : End) (h : List ℕ) (a : Act) (m : List ℕ) → refusal (rules.console-rules counted isMessage (in-console (λ _. h) (end e)) (in-console-act (λ _. m) (act a))) ≡ refusalOf e a m
+pub same-refusal : (e : End) (h : List ℕ) (a : Act) (m : List ℕ) → refusal (rules.console-rules counted isMessage (in-console (λ _. h) (end e)) (in-console-act (λ _. m) (act a))) ≡ refusalOf e a m
 same-refusal e h a m = ap refusal (same-rules (e .used .0) (e .mode) (e .up) h a m)
 
 -- a refusal leaves the end

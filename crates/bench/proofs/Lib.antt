@@ -1,0 +1,12 @@
+pub mod Asking
+pub mod ConsoleActing
+pub mod ConsoleDone
+pub mod ConsoleStages
+pub mod ControllerActing
+pub mod ControllerDone
+pub mod ControllerStages
+pub mod Handing
+pub mod Losing
+pub mod Refusing
+pub mod Rooms
+pub mod Tables

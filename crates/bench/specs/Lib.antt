@@ -1,0 +1,5 @@
+pub mod Asking
+pub mod Means
+pub mod Moving
+pub mod Promise
+pub mod Within

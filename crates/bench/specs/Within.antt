@@ -1,0 +1,134 @@
+-- What the private step promises, of a bench that is known to be well formed. Nothing of it stands in the promise of an entry. Assumes nothing.
+use Prim.Native.Nat.{ℕ}
+use mathlib.Core.Path.{_≡_}
+use mathlib.Core.Bool.{Bool, true, false, _&&_}
+use mathlib.Core.Option.{none}
+use mathlib.Core.List.{List}
+use lib.Dec.{leb, ltb}
+use Rattle.ground.specs.Choice.{if_then_else_}
+use Rattle.ground.specs.Cell.{isMessage}
+use Rattle.ground.specs.First.{refusal}
+use Rattle.wire.specs.declared.Direction.{Direction}
+use Rattle.wire.specs.declared.Direction.the-variants as dir
+use Rattle.protocol.specs.Supply.{counted}
+use Rattle.protocol.specs.Ends as ends
+use Rattle.protocol.specs.Bench as rules
+use Rattle.protocol.specs.Relabel.{in-console, in-console-act, in-controller-act}
+use Rattle.protocol.specs.WellFormed.{Well-formed}
+use Rattle.letters.specs.Lines.{letterMeans, lineOf}
+use Rattle.letters.specs.declared.Line.{Line}
+use Rattle.ends.specs.Means.{tested, reportBack}
+use Rattle.ends.specs.InRules.{delivered}
+use Rattle.ends.specs.Console as console
+use Rattle.ends.specs.Controller as controller
+use Rattle.ends.specs.declared.Report.{Report}
+use Rattle.ends.specs.declared.console.Act as console-act
+use Rattle.ends.specs.declared.console.Act.the-variants as acts
+use Rattle.ends.specs.declared.controller.Act as controller-act
+use Rattle.channels.specs.Packets.{toControllerBytes, toControllerRead, toConsoleBytes, toConsoleRead}
+use Rattle.channels.specs.Table.{channel, packets}
+use Rattle.bench.specs.declared.Action.{Action}
+use Rattle.bench.specs.declared.inside.Inside.{Inside}
+use Rattle.bench.specs.declared.inside.Told.{Told}
+
+-- ## A bench by its modes, in the rules
+
+unfoldable pub insideMeans : Inside → List ℕ → List ℕ → rules.Bench ℕ (List ℕ)
+insideMeans b out back =
+    record {
+      console = in-console (λ _. b .held) (console.end (b .console));
+      controller = controller.end (b .controller);
+      toController = packets toControllerRead (b .sent) out;
+      toConsole = packets toConsoleRead (b .returned) back;
+    }
+
+-- well formed, and the tables hold these packets and zero bytes
+pub record Known (b : Inside) (out back : List ℕ) : Type 0 where
+  pub well-formed : Well-formed counted isMessage (insideMeans b out back)
+  pub out-holds : out ≡ channel toControllerBytes (insideMeans b out back .toController)
+  pub back-holds : back ≡ channel toConsoleBytes (insideMeans b out back .toConsole)
+
+-- ## What the private step promises
+
+pub record Within : Type 0 where
+  pub report : Report
+  pub message : List ℕ
+  pub after : rules.Bench ℕ (List ℕ)
+  pub out : List ℕ
+  pub back : List ℕ
+
+unfoldable pub within : Told → List ℕ → List ℕ → Within
+within r out back = record { report = r .report; message = r .message; after = insideMeans (r .after) out back; out = out; back = back }
+
+unfoldable pub withinTold : rules.Outcome ℕ (List ℕ) → Within
+withinTold o =
+    record {
+      report = reportBack (o .report);
+      message = delivered (o .report);
+      after = o .after;
+      out = channel toControllerBytes (o .after .toController);
+      back = channel toConsoleBytes (o .after .toConsole);
+    }
+
+-- a line of the letters' table
+unfoldable pub Lined : Line → Type 0
+Lined line = line ≡ lineOf (letterMeans (line .letter))
+
+unfoldable pub actionOf : Line → Action → rules.Action (List ℕ)
+actionOf line a = rules.action (letterMeans (line .letter)) (a .place) (a .copies) (a .message)
+
+unfoldable pub insideStep : Inside → List ℕ → List ℕ → Line → Action → Within
+insideStep b out back line a = withinTold (rules.step counted isMessage (insideMeans b out back) (actionOf line a))
+
+-- ## What is known on the way: 10 doesn't apply, and who is asked
+
+abbrev pub puts : console-act.Act → Bool
+puts acts.Put = true
+puts acts.SendNeedI = false
+puts acts.SendData = false
+puts (acts.Take p) = false
+puts acts.GoDown = false
+puts acts.ComeBack = false
+
+abbrev pub asksOf : Inside → List ℕ → List ℕ → Line → Action → rules.Asked (List ℕ)
+asksOf b out back line a = rules.asks (insideMeans b out back) (letterMeans (line .letter)) (a .place) (a .message)
+
+-- the console; what it does without copies sends nothing
+pub record OnConsole (b : Inside) (out back : List ℕ) (line : Line) (a : Action) (act : console-act.Act) : Type 0 where
+  pub lined : Lined line
+  pub few : (line .copies && ltb 3 (a .copies)) ≡ false
+  pub asks : asksOf b out back line a ≡ rules.Asked.console (in-console-act (λ _. a .message) (console.act act))
+  pub takes : rules.takes (letterMeans (line .letter)) ≡ (if line .place then rules.from-toConsole else rules.from-neither)
+  pub message : line .message ≡ puts act
+  pub silent : line .copies ≡ false → (e : ends.Console ℕ (List ℕ)) → ends.console-acts counted e (in-console-act (λ _. a .message) (console.act act)) .sent ≡ none
+
+-- and it does not refuse, and the packet is there
+pub record ConsoleReady (b : Inside) (out back : List ℕ) (line : Line) (a : Action) (act : console-act.Act) : Type 0 where
+  pub on : OnConsole b out back line a act
+  pub accepts : refusal (ends.console-rules counted (tested (isMessage (a .message))) (console.end (b .console)) (console.act act)) ≡ 0
+  pub there : (line .place && leb (b .returned) (a .place)) ≡ false
+
+-- the controller, with data's message
+pub record OnController (b : Inside) (out back : List ℕ) (line : Line) (a : Action) (act : controller-act.Act) (m : List ℕ) : Type 0 where
+  pub lined : Lined line
+  pub few : (line .copies && ltb 3 (a .copies)) ≡ false
+  pub asks : asksOf b out back line a ≡ rules.Asked.controller (in-controller-act (λ _. m) (controller.act act))
+  pub takes : rules.takes (letterMeans (line .letter)) ≡ (if line .place then rules.from-toController else rules.from-neither)
+  pub silent : line .copies ≡ false → (e : ends.Controller ℕ) → ends.controller-acts counted e (in-controller-act (λ _. m) (controller.act act)) .sent ≡ none
+
+pub record ControllerReady (b : Inside) (out back : List ℕ) (line : Line) (a : Action) (act : controller-act.Act) (m : List ℕ) : Type 0 where
+  pub on : OnController b out back line a act m
+  pub accepts : refusal (ends.controller-rules counted (controller.end (b .controller)) (controller.act act)) ≡ 0
+  pub there : (line .place && leb (b .sent) (a .place)) ≡ false
+
+-- a packet on its way in a direction
+abbrev pub lostFrom : Direction → rules.Taken
+lostFrom dir.ToController = rules.from-toController
+lostFrom dir.ToConsole = rules.from-toConsole
+
+pub record OnLosing (b : Inside) (out back : List ℕ) (line : Line) (a : Action) (way : Direction) : Type 0 where
+  pub lined : Lined line
+  pub few : (line .copies && ltb 3 (a .copies)) ≡ false
+  pub asks : asksOf b out back line a ≡ rules.no-end
+  pub takes : rules.takes (letterMeans (line .letter)) ≡ lostFrom way
+  pub place : line .place ≡ true

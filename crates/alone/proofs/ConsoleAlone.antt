@@ -12,8 +12,8 @@ use Rattle.protocol.specs.Supply.{counted}
 use Rattle.protocol.specs.Ends as rules
 use Rattle.ends.specs.Means.{tested}
 use Rattle.ends.specs.Console.{end, act}
-use Rattle.ends.specs.Fields.{consoleOk, consoleRead, consoleEnd}
-use Rattle.ends.proofs.ConsoleFields.{was-read}
+use Rattle.ends.specs.Fields.{consoleWasRead, consoleOk, consoleRead, consoleEnd}
+use Rattle.ends.proofs.ConsoleFields.{was-read, was-read-so}
 use Rattle.ends.proofs.Telling.{unchanged}
 use Rattle.ends.specs.declared.console.End.{End}
 use Rattle.ends.specs.declared.console.Act.{Act}
@@ -24,14 +24,13 @@ use Rattle.ends.specs.declared.fields.ConsoleRead.{ConsoleRead}
 use Rattle.ends.specs.declared.fields.ConsoleRead.the-variants.{IllFormed, Is}
 use Rattle.alone.specs.declared.console.Asked.{Asked}
 use Rattle.alone.specs.declared.console.Asked.the-variants as asked-is
-use Rattle.ground.proofs.Tests.{by-test}
 use Rattle.wire.specs.Packet.{packetRead}
 use Rattle.protocol.specs.Letters.{letter}
 use Rattle.letters.specs.Lines.{foundOf}
 use Rattle.alone.specs.declared.console.ConsoleOutcome.{ConsoleOutcome}
 use Rattle.alone.specs.Alone.{Writable, early}
 use Rattle.alone.specs.ConsoleAlone.{ConsoleAlone, consoleStepped, consoleTold, consoleAsked, consoleDoes, consoleAlone}
-use Rattle.alone.specs.ConsoleWithin.{Ready, looked, wasRead}
+use Rattle.alone.specs.ConsoleWithin.{Ready, looked}
 use Rattle.ends.specs.InRules.{consoleActed}
 use Rattle.ends.specs.Packets.{toControllerPacket}
 use Rattle.ends.proofs.ConsoleBeside.{refusalOf, step-done, step-refused}
@@ -77,16 +76,12 @@ module _ {n : ℕ} {good : Bool} (c : Console) (e : End) (a : Act) (m : List ℕ
 
 -- ## The entry
 
-was-read-so : (c : Console) → wasRead (consoleRead c) ≡ consoleOk c
-unfolding consoleRead if_then_else_
-was-read-so c = by-test (consoleOk c) (λ t. rw t) (λ f. rw f)
-
 module _ {asked : Asked} {read : ConsoleRead} (c : Console) (l : ℕ) (m packet reply : List ℕ) (asks : asked ≡ consoleAsked (foundOf (letter l)) (packetRead packet .head) (length reply)) (reads : read ≡ consoleRead c) where
-  pub alone-refused : {n k : ℕ} {b : Bool} {x : ConsoleOutcome} → asked ≡ asked-is.Refused n → b ≡ wasRead read → k ≡ early n b → x ≡ record { report = report.Refused k; sent = false; console = c }
+  pub alone-refused : {n k : ℕ} {b : Bool} {x : ConsoleOutcome} → asked ≡ asked-is.Refused n → b ≡ consoleWasRead read → k ≡ early n b → x ≡ record { report = report.Refused k; sent = false; console = c }
       → record { outcome = x; reply = reply } ≡ consoleAlone c l m packet reply
   unfolding consoleAlone
   alone-refused {n} f b g h =
-      let ks = g ∙ ap (early n) (b ∙ ap wasRead reads ∙ was-read-so c) in
+      let ks = g ∙ ap (early n) (b ∙ ap consoleWasRead reads ∙ was-read-so c) in
       (λ i. record { outcome = h i; reply = reply })
       ∙ (λ i. record { outcome = record { report = report.Refused (ks i); sent = false; console = c }; reply = reply })
       ∙ ap (λ (a : Asked). consoleDoes c a m reply) (sym f ∙ asks)
@@ -95,13 +90,13 @@ module _ {asked : Asked} {read : ConsoleRead} (c : Console) (l : ℕ) (m packet 
       → record { outcome = x; reply = reply } ≡ consoleAlone c l m packet reply
   unfolding consoleAlone if_then_else_
   alone-ill f g h =
-      let no : consoleOk c ≡ false = sym (was-read-so c) ∙ ap wasRead (sym reads ∙ g) in
+      let no : consoleOk c ≡ false = sym (was-read-so c) ∙ ap consoleWasRead (sym reads ∙ g) in
       (λ i. record { outcome = h i; reply = reply }) ∙ rw (← asks, f, no)
 
   pub alone-does : {a : Act} {e : End} {x : ConsoleAlone} → asked ≡ asked-is.Is a → read ≡ Is e → x ≡ consoleTold (consoleStepped c a m) reply → x ≡ consoleAlone c l m packet reply
   unfolding consoleAlone if_then_else_
   alone-does f g h =
-      let yes : consoleOk c ≡ true = sym (was-read-so c) ∙ ap wasRead (sym reads ∙ g) in
+      let yes : consoleOk c ≡ true = sym (was-read-so c) ∙ ap consoleWasRead (sym reads ∙ g) in
       rw (← asks, f, yes) h
 
 pub read-as : {read : ConsoleRead} {e : End} (c : Console) → read ≡ consoleRead c → read ≡ Is e → consoleRead c ≡ Is e

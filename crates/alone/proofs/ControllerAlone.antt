@@ -1,6 +1,6 @@
 -- A controller run alone: the ways through its step.
 use Prim.Native.Nat.{ℕ}
-use mathlib.Core.Path.{_≡_, refl, sym, ap, _∙_, subst}
+use mathlib.Core.Path.{_≡_, sym, ap, _∙_, subst}
 use mathlib.Core.Bool.{Bool, true, false}
 use mathlib.Core.Option.{Option·map}
 use mathlib.Core.List.{List}
@@ -8,17 +8,15 @@ use lib.ListN.{length}
 use Rattle.ground.specs.Choice.{if_then_else_}
 use Rattle.ground.specs.Cell.{spaces}
 use Rattle.ground.specs.First.{refusal}
-use Rattle.ground.proofs.Tests.{by-test}
 use Rattle.wire.specs.Packet.{packetRead}
 use Rattle.protocol.specs.Supply.{counted}
 use Rattle.protocol.specs.Letters.{letter}
 use Rattle.protocol.specs.Ends as rules
 use Rattle.letters.specs.Lines.{foundOf}
 use Rattle.ends.specs.Controller.{end, act}
-use Rattle.ends.specs.Fields.{controllerOk, controllerRead, controllerEnd, controllerWith}
-use Rattle.ends.proofs.ControllerFields.{fields-back, was-read}
-use Rattle.ends.specs.declared.controller.Mode.{Mode}
-use Rattle.ends.specs.declared.controller.Mode.the-variants.{Idle, Accept, Ack}
+use Rattle.ends.specs.Fields.{controllerWasRead, controllerOk, controllerRead, controllerEnd}
+use Rattle.ends.proofs.ControllerFields.{was-read, was-read-so}
+use Rattle.ends.proofs.Telling.{controller-unchanged}
 use Rattle.ends.specs.declared.controller.End.{End}
 use Rattle.ends.specs.declared.controller.Act.{Act}
 use Rattle.ends.specs.declared.Report.the-variants as report
@@ -32,21 +30,11 @@ use Rattle.alone.specs.declared.controller.ControllerOutcome.{Controller
 use Rattle.alone.specs.Alone.{Writable, early}
 use Rattle.alone.specs.ControllerAlone.{ControllerAlone, controllerStepped, controllerTold}
 use Rattle.alone.specs.ControllerWithin.{Ready}
-use Rattle.ends.specs.InRules.{controllerMeans, controllerBack, controllerActed}
+use Rattle.ends.specs.InRules.{controllerActed}
 use Rattle.ends.specs.Packets.{toConsolePacket}
 use Rattle.alone.specs.ControllerAlone.{controllerAsked, controllerDoes, controllerAlone}
-use Rattle.alone.specs.ControllerWithin.{wasRead}
 use Rattle.ends.proofs.ControllerBeside.{refusalOf, step-done, step-refused}
 use Rattle.alone.proofs.ControllerReady.{can-write}
-
--- the fields of a well-formed controller, by way of the rules
-fields-of : (u : ℕ) (k : Mode) (up : Bool) → controllerBack (end (record { used = record { 0 = u }; mode = k; up = up })) ≡ controllerWith (record { 0 = u }) k up
-fields-of u Idle up = refl
-fields-of u (Accept j i) up = refl
-fields-of u (Ack l) up = refl
-
-unchanged : (c : Controller) → controllerOk c ≡ true → controllerBack (controllerMeans c) ≡ c
-unchanged c ok = fields-of (c .used .0) (controllerEnd c .mode) (c .up) ∙ fields-back c ok
 
 module _ {n : ℕ} (c : Controller) (e : End) (a : Act) (m : List ℕ) (read : controllerRead c ≡ Is e) (refuses : n ≡ refusal (rules.controller-rules counted (end e) (act a))) where
   number-is : n ≡ refusalOf (controllerEnd c) a
@@ -56,7 +44,7 @@ module _ {n : ℕ} (c : Controller) (e : End) (a : Act) (m : List ℕ) (read : c
       → record { outcome = x; reply = reply } ≡ controllerTold (controllerStepped c a m) reply
   unfolding rules.absent controllerStepped
   does-refused reply z h =
-      let same = sym (unchanged c (was-read c read .0)) in
+      let same = sym (controller-unchanged c (was-read c read .0)) in
       (λ i. record { outcome = h i; reply = reply })
       ∙ (λ i. record { outcome = record { report = report.Refused (number-is i); message = spaces; sent = false; controller = same i }; reply = reply })
       ∙ ap (λ (d : rules.ControllerActed ℕ (List ℕ)). controllerTold d reply) (sym (step-refused (controllerEnd c) a m (λ q. z (number-is ∙ q))))
@@ -75,10 +63,6 @@ does-writable c e a m k read r =
 
 -- ## The entry
 
-was-read-so : (c : Controller) → wasRead (controllerRead c) ≡ controllerOk c
-unfolding controllerRead if_then_else_
-was-read-so c = by-test (controllerOk c) (λ t. rw t) (λ f. rw f)
-
 module _ {request : Request} {read : ControllerRead} (c : Controller) (l : ℕ) (packet reply : List ℕ) (asks : request ≡ controllerAsked (foundOf (letter l)) (packetRead packet) (length reply)) (reads : read ≡ controllerRead c) where
   -- what is asked decides
   decides : {a : Asked} → request .asked ≡ a → controllerDoes c a (request .message) reply ≡ controllerAlone c l packet reply
@@ -87,10 +71,10 @@ module _ {request : Request} {read : ControllerRead} (c : Controller) (l : ℕ) 
       (λ i. controllerDoes c (sym f i) (request .message) reply)
       ∙ ap (λ (r : Request). controllerDoes c (r .asked) (r .message) reply) asks
 
-  pub alone-refused : {n k : ℕ} {b : Bool} {x : ControllerOutcome} → request .asked ≡ asked-is.Refused n → b ≡ wasRead read → k ≡ early n b → x ≡ record { report = report.Refused k; message = spaces; sent = false; controller = c }
+  pub alone-refused : {n k : ℕ} {b : Bool} {x : ControllerOutcome} → request .asked ≡ asked-is.Refused n → b ≡ controllerWasRead read → k ≡ early n b → x ≡ record { report = report.Refused k; message = spaces; sent = false; controller = c }
       → record { outcome = x; reply = reply } ≡ controllerAlone c l packet reply
   alone-refused {n} f b g h =
-      let ks = g ∙ ap (early n) (b ∙ ap wasRead reads ∙ was-read-so c) in
+      let ks = g ∙ ap (early n) (b ∙ ap controllerWasRead reads ∙ was-read-so c) in
       (λ i. record { outcome = h i; reply = reply })
       ∙ (λ i. record { outcome = record { report = report.Refused (ks i); message = spaces; sent = false; controller = c }; reply = reply })
       ∙ decides f
@@ -99,14 +83,14 @@ module _ {request : Request} {read : ControllerRead} (c : Controller) (l : ℕ) 
       → record { outcome = x; reply = reply } ≡ controllerAlone c l packet reply
   unfolding if_then_else_
   alone-ill {a} f g h =
-      let no : controllerOk c ≡ false = sym (was-read-so c) ∙ ap wasRead (sym reads ∙ g) in
+      let no : controllerOk c ≡ false = sym (was-read-so c) ∙ ap controllerWasRead (sym reads ∙ g) in
       let ill : record { outcome = record { report = report.Refused 2; message = spaces; sent = false; controller = c }; reply = reply } ≡ controllerDoes c (asked-is.Is a) (request .message) reply = rw no in
       (λ i. record { outcome = h i; reply = reply }) ∙ ill ∙ decides f
 
   pub alone-does : {a : Act} {e : End} {x : ControllerAlone} → request .asked ≡ asked-is.Is a → read ≡ Is e → x ≡ controllerTold (controllerStepped c a (request .message)) reply → x ≡ controllerAlone c l packet reply
   unfolding if_then_else_
   alone-does {a} f g h =
-      let yes : controllerOk c ≡ true = sym (was-read-so c) ∙ ap wasRead (sym reads ∙ g) in
+      let yes : controllerOk c ≡ true = sym (was-read-so c) ∙ ap controllerWasRead (sym reads ∙ g) in
       let does : controllerTold (controllerStepped c a (request .message)) reply ≡ controllerDoes c (asked-is.Is a) (request .message) reply = rw yes in
       h ∙ does ∙ decides f
 

@@ -1,7 +1,7 @@
 -- What the private functions of a console run alone promise each other. Nothing of it stands in the entry's promise. Assumes nothing.
 use Prim.Native.Nat.{ℕ}
 use mathlib.Core.Path.{_≡_}
-use mathlib.Core.Bool.{Bool, true, false}
+use mathlib.Core.Bool.{Bool, true}
 use mathlib.Core.Option.{Option, Option·map}
 use mathlib.Core.List.{List}
 use Rattle.wire.specs.declared.Packet.{Packet}
@@ -13,10 +13,7 @@ use Rattle.ends.specs.Means.{forConsole, forController}
 use Rattle.ends.specs.declared.ForController.{ForController}
 use Rattle.ends.specs.declared.console.Act.{Act}
 use Rattle.ends.specs.declared.console.Act.the-variants as act
-use Rattle.ends.specs.declared.fields.ConsoleRead.{ConsoleRead}
-use Rattle.ends.specs.declared.fields.ConsoleRead.the-variants as console-read
 use Rattle.alone.specs.Alone.{Above}
-use Rattle.alone.specs.declared.console.Asked.the-variants.{Is}
 
 -- what is sent, with the message of data beside it
 abbrev pub toControllerSent : ForController → List ℕ → Option Packet
@@ -39,7 +36,3 @@ looked act.SendData good = true
 looked (act.Take p) good = true
 looked act.GoDown good = true
 looked act.ComeBack good = true
-
-abbrev pub wasRead : ConsoleRead → Bool
-wasRead console-read.IllFormed = false
-wasRead (console-read.Is e) = true

@@ -1,7 +1,6 @@
 -- What the private functions of a controller run alone promise each other. Nothing of it stands in the entry's promise. Assumes nothing.
 use Prim.Native.Nat.{ℕ}
 use mathlib.Core.Path.{_≡_}
-use mathlib.Core.Bool.{Bool, true, false}
 use mathlib.Core.Option.{Option, Option·map}
 use Rattle.wire.specs.declared.Packet.{Packet}
 use Rattle.protocol.specs.Lists.{Opt}
@@ -11,10 +10,7 @@ use Rattle.ends.specs.Means.{forController, forConsole}
 use Rattle.ends.specs.declared.ForConsole.{ForConsole}
 use Rattle.ends.specs.declared.controller.Act.{Act}
 use Rattle.ends.specs.declared.controller.Act.the-variants as act
-use Rattle.ends.specs.declared.fields.ControllerRead.{ControllerRead}
-use Rattle.ends.specs.declared.fields.ControllerRead.the-variants as controller-read
 use Rattle.alone.specs.Alone.{Above}
-use Rattle.alone.specs.declared.controller.Asked.the-variants.{Is}
 
 -- what is sent
 abbrev pub toConsoleSent : ForConsole → Option Packet
@@ -27,7 +23,3 @@ Ready act.SendOk n = n ≡ 32
 Ready (act.Take p) n = (n ≡ 32) × Opt (ToController-bears Above Above Any) (forController p)
 Ready act.GoDown n = Unit {0}
 Ready act.ComeBack n = Unit {0}
-
-abbrev pub wasRead : ControllerRead → Bool
-wasRead controller-read.IllFormed = false
-wasRead (controller-read.Is e) = true

@@ -10,6 +10,7 @@ use ends::console::End;
 use ends::fields::Console;
 use ends::fields::ConsoleRead;
 use ends::fields::console_of;
+use ends::fields::console_was_read;
 use ends::fields::read_console;
 use letters::Found;
 use letters::Letter;
@@ -32,7 +33,7 @@ ghost use Rattle.alone.specs.ConsoleAlone.{consoleTakes, consoleHears, c
 ghost use Rattle.alone.specs.ConsoleWithin.{toControllerSent};
 ghost use Rattle.ends.specs.Packets.{toControllerPacket};
 ghost use Rattle.alone.specs.ConsoleAlone.{consoleStepped, consoleTold, consoleAlone};
-ghost use Rattle.alone.specs.ConsoleWithin.{looked, Ready, wasRead};
+ghost use Rattle.alone.specs.ConsoleWithin.{looked, Ready};
 ghost use Rattle.ends.specs.InRules.{kept, consoleActed};
 
 enum Asked {
@@ -210,16 +211,6 @@ fn does(c: Console, e: End, a: Act, message: [u8; 16], reply: &mut [u8]) -> Cons
     carries_out(held, e, a, message, reply)
 }
 
-// Whether the console was read.
-fn is_read(read: ConsoleRead) -> bool
-    ensures { λ r. ⌜ r ≡ wasRead read ⌝ }
-{
-    match read {
-        ConsoleRead::IllFormed => false,
-        ConsoleRead::Is(_) => true,
-    }
-}
-
 // P Q D S C V of a console run alone. What is sent is written to `reply`.
 pub fn step(
     c: Console,
@@ -233,7 +224,7 @@ pub fn step(
     let asked = letter_asks(letter, packet, reply.len());
     let read = read_console(c);
     match asked {
-        Asked::Refused(n) => refused(early(n, is_read(read)), c),
+        Asked::Refused(n) => refused(early(n, console_was_read(read)), c),
         Asked::Is(a) => match read {
             ConsoleRead::IllFormed => refused(2, c),
             ConsoleRead::Is(e) => does(c, e, a, message, reply),

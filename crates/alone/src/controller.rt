@@ -11,6 +11,7 @@ use ends::controller::End;
 use ends::fields::Controller;
 use ends::fields::ControllerRead;
 use ends::fields::controller_of;
+use ends::fields::controller_was_read;
 use ends::fields::read_controller;
 use letters::Found;
 use letters::Letter;
@@ -33,7 +34,7 @@ ghost use Rattle.alone.specs.ControllerAlone.{bare, refusing, controller
 ghost use Rattle.alone.specs.ControllerWithin.{toConsoleSent};
 ghost use Rattle.ends.specs.Packets.{toConsolePacket};
 ghost use Rattle.alone.specs.ControllerAlone.{controllerStepped, controllerTold, controllerAlone};
-ghost use Rattle.alone.specs.ControllerWithin.{Ready, wasRead};
+ghost use Rattle.alone.specs.ControllerWithin.{Ready};
 ghost use Rattle.ends.specs.InRules.{controllerActed};
 
 enum Asked {
@@ -197,16 +198,6 @@ fn does(c: Controller, e: End, a: Act, message: [u8; 16], reply: &mut [u8]) -> C
     carries_out(e, a, message, reply)
 }
 
-// Whether the controller was read.
-fn is_read(read: ControllerRead) -> bool
-    ensures { λ r. ⌜ r ≡ wasRead read ⌝ }
-{
-    match read {
-        ControllerRead::IllFormed => false,
-        ControllerRead::Is(_) => true,
-    }
-}
-
 // O K R X Y of a controller run alone. What is sent is written to `reply`.
 pub fn step(c: Controller, letter: u8, packet: &[u8], reply: &mut [u8]) -> ControllerOutcome
     ensures { λ r. ⌜ record { outcome = r; reply = now (reply .exit) } ≡ controllerAlone c letter (now (packet .entry)) (now (reply .entry)) ⌝ }
@@ -216,7 +207,7 @@ pub fn step(c: Controller, letter: u8, packet: &[u8], reply: &mut [u8]) -> Contr
     let asked = request.asked;
     let read = read_controller(c);
     match asked {
-        Asked::Refused(n) => refused(early(n, is_read(read)), c),
+        Asked::Refused(n) => refused(early(n, controller_was_read(read)), c),
         Asked::Is(a) => match read {
             ControllerRead::IllFormed => refused(2, c),
             ControllerRead::Is(e) => does(c, e, a, message, reply),

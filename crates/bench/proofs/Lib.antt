@@ -6,7 +6,9 @@ pub mod ControllerActing
 pub mod ControllerDone
 pub mod ControllerStages
 pub mod Handing
+pub mod Knowing
 pub mod Losing
 pub mod Refusing
 pub mod Rooms
+pub mod Stepping
 pub mod Tables

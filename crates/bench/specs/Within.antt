@@ -1,10 +1,11 @@
 -- What the private step promises, of a bench that is known to be well formed. Nothing of it stands in the promise of an entry. Assumes nothing.
-use Prim.Native.Nat.{ℕ}
+use Prim.Native.Nat.{ℕ, _<_, _^_}
 use mathlib.Core.Path.{_≡_}
 use mathlib.Core.Bool.{Bool, true, false, _&&_}
-use mathlib.Core.Option.{none}
+use mathlib.Core.Option.{none, some}
 use mathlib.Core.List.{List}
 use lib.Dec.{leb, ltb}
+use lib.ListN.{length}
 use Rattle.ground.specs.Choice.{if_then_else_}
 use Rattle.ground.specs.Cell.{isMessage}
 use Rattle.ground.specs.First.{refusal}
@@ -19,6 +20,9 @@ use Rattle.letters.specs.Lines.{letterMeans, lineOf}
 use Rattle.letters.specs.declared.Line.{Line}
 use Rattle.ends.specs.Means.{tested, reportBack}
 use Rattle.ends.specs.InRules.{delivered}
+use Rattle.ends.specs.Fields.{consoleEnd, consoleFields, controllerEnd, controllerFields}
+use Rattle.ends.specs.declared.fields.Console.{Console}
+use Rattle.ends.specs.declared.fields.Controller.{Controller}
 use Rattle.ends.specs.Console as console
 use Rattle.ends.specs.Controller as controller
 use Rattle.ends.specs.declared.Report.{Report}
@@ -27,7 +31,10 @@ use Rattle.ends.specs.declared.console.Act.the-variants as acts
 use Rattle.ends.specs.declared.controller.Act as controller-act
 use Rattle.channels.specs.Packets.{toControllerBytes, toControllerRead, toConsoleBytes, toConsoleRead}
 use Rattle.channels.specs.Table.{channel, packets}
+use Rattle.bench.specs.Promise.{Result, stepOf}
 use Rattle.bench.specs.declared.Action.{Action}
+use Rattle.bench.specs.declared.Bench.{Bench}
+use Rattle.bench.specs.declared.Outcome.{Outcome}
 use Rattle.bench.specs.declared.inside.Inside.{Inside}
 use Rattle.bench.specs.declared.inside.Told.{Told}
 
@@ -132,3 +139,41 @@ pub record OnLosing (b : Inside) (out back : List ℕ) (line : Line) (a : Action
   pub asks : asksOf b out back line a ≡ rules.no-end
   pub takes : rules.takes (letterMeans (line .letter)) ≡ lostFrom way
   pub place : line .place ≡ true
+
+-- ## Between the fields and the modes
+
+-- what the types of the ends' fields say
+pub record Typed (c : Console) (d : Controller) : Type 0 where
+  pub message : length (c .message) ≡ 16
+  pub console-used : c .used .0 < 2 ^ 32
+  pub console-last : c .last .0 < 2 ^ 32
+  pub controller-used : d .used .0 < 2 ^ 32
+  pub controller-j : d .j .0 < 2 ^ 32
+
+unfoldable pub insideOf : Bench → Inside
+insideOf b =
+    record {
+      console = consoleEnd (b .console);
+      held = b .console .message;
+      controller = controllerEnd (b .controller);
+      sent = b .sent;
+      returned = b .returned;
+    }
+
+unfoldable pub outcomeOf : Told → Outcome
+outcomeOf t =
+    record {
+      report = t .report;
+      message = t .message;
+      bench =
+          record {
+            console = consoleFields (t .after .console) (t .after .held);
+            controller = controllerFields (t .after .controller);
+            sent = t .after .sent;
+            returned = t .after .returned;
+          };
+    }
+
+-- the step of a letter that is an action
+unfoldable pub linedStep : Bench → Line → Action → List ℕ → List ℕ → Result
+linedStep b line a out back = stepOf (some (letterMeans (line .letter))) b a out back

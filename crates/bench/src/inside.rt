@@ -48,21 +48,13 @@ fn refused(n: u8, b: Inside) -> Told
 fn too_many(uses: bool, copies: usize) -> bool
     ensures { λ r. ⌜ r ≡ (uses && ltb 3 copies) ⌝ }
 {
-    if uses {
-        3 < copies
-    } else {
-        false
-    }
+    if uses { 3 < copies } else { false }
 }
 
 fn no_place(uses: bool, count: usize, place: usize) -> bool
     ensures { λ r. ⌜ r ≡ (uses && leb count place) ⌝ }
 {
-    if uses {
-        count <= place
-    } else {
-        false
-    }
+    if uses { count <= place } else { false }
 }
 
 // The cells of a message are looked at by a letter that uses it.
@@ -79,11 +71,7 @@ fn is_good(uses: bool, message: [u8; 16]) -> bool
 fn keeps(uses: bool, message: [u8; 16], held: [u8; 16]) -> [u8; 16]
     ensures { λ r. ⌜ r ≡ (if uses then message else held) ⌝ }
 {
-    if uses {
-        message
-    } else {
-        held
-    }
+    if uses { message } else { held }
 }
 
 // What a console does that does not refuse, unless there is no room for what it sends.
@@ -236,14 +224,7 @@ fn lost(b: Inside, sent: usize, returned: usize) -> Told
     }
 }
 
-fn loses(
-    b: Inside,
-    dir: Direction,
-    line: Line,
-    a: Action,
-    out: &mut [u8],
-    back: &mut [u8],
-) -> Told
+fn loses(b: Inside, dir: Direction, line: Line, a: Action, out: &mut [u8], back: &mut [u8]) -> Told
     requires { ⌜ Known b (now out) (now back) ⌝ }
     requires { ⌜ OnLosing b (now out) (now back) line a dir ⌝ }
     ensures { λ r. ⌜ within r (now (out .exit)) (now (back .exit)) ≡ insideStep b (now (out .entry)) (now (back .entry)) line a ⌝ }

@@ -16,7 +16,7 @@ use Rattle.ends.specs.declared.console.Mode.the-variants.{Idle, NeedI, S
 use Rattle.ends.specs.declared.fields.Console.{Console}
 use Rattle.ends.specs.declared.fields.ConsoleRead.{ConsoleRead}
 use Rattle.ends.specs.declared.fields.ConsoleRead.the-variants.{IllFormed, Is}
-use Rattle.ends.specs.Fields.{consoleOk, consoleMode, consoleRead, consoleWith, consoleFields, consoleEnd}
+use Rattle.ends.specs.Fields.{consoleOk, consoleMode, consoleRead, consoleWasRead, consoleWith, consoleFields, consoleEnd}
 use Rattle.wire.specs.declared.J.{J}
 use Rattle.wire.specs.declared.I.{I}
 use mathlib.Core.List.{List}
@@ -168,3 +168,26 @@ was-read c {e} h =
     by-test (consoleOk c)
     (λ t. let q : Is (consoleEnd c) ≡ Is e = rw t at h in (t, cc))
     (λ f. let q : IllFormed ≡ Is e = rw f at h in let z : _≡_ {A = ℕ} 0 1 = cc in absurd (omega (arith, z)))
+
+pub was-read-so : (c : Console) → consoleWasRead (consoleRead c) ≡ consoleOk c
+unfolding consoleRead if_then_else_
+was-read-so c = by-test (consoleOk c) (λ t. rw t) (λ f. rw f)
+
+pub was-ok : {read : ConsoleRead} {b : Bool} (c : Console) → read ≡ consoleRead c → b ≡ consoleWasRead read → b ≡ consoleOk c
+was-ok c f g = g ∙ ap consoleWasRead f ∙ was-read-so c
+
+-- the mode, of fields that are not tested
+module _ (c : Console) where
+  pub mode-idle : not (c .held) ≡ true → record { used = c .used; mode = Idle; up = c .up } ≡ consoleEnd c
+  unfolding consoleMode if_then_else_
+  mode-idle n = rw (not-true (c .held) n)
+
+  pub mode-send : not (c .held) ≡ false → c .j .0 ≡ 0 → record { used = c .used; mode = Send (c .last); up = c .up } ≡ consoleEnd c
+  unfolding consoleMode if_then_else_
+  mode-send n j = rw (not-false (c .held) n, eq-eqb (c .j .0) 0 j)
+
+  pub mode-needI : not (c .held) ≡ false → (c .j .0 ≡ 0 → ⊥) → record { used = c .used; mode = NeedI (c .j); up = c .up } ≡ consoleEnd c
+  unfolding consoleMode if_then_else_
+  mode-needI n j = rw (not-false (c .held) n, ne-eqb (c .j .0) 0 j)
+
+pub ruleset modes = (mode-idle, mode-send, mode-needI)

@@ -1,6 +1,6 @@
 -- Reading a controller's fields: the ways through the reader, and what they give.
 use Prim.Native.Nat.{ℕ, _≤_, _<_}
-use mathlib.Core.Path.{_≡_, refl, sym, subst}
+use mathlib.Core.Path.{_≡_, refl, sym, ap, subst, _∙_}
 use mathlib.Core.Bool.{Bool, true, false, not, _&&_}
 use native.Mathlib.Omega.{arith}
 use borrow.Author.Tests.{eq-eqb, ne-eqb, le-leb, lt-leb, not-true, eqb-true, eqb-false}
@@ -14,7 +14,7 @@ use Rattle.ends.specs.declared.controller.Mode.the-variants.{Idle, Accep
 use Rattle.ends.specs.declared.fields.Controller.{Controller}
 use Rattle.ends.specs.declared.fields.ControllerRead.{ControllerRead}
 use Rattle.ends.specs.declared.fields.ControllerRead.the-variants.{IllFormed, Is}
-use Rattle.ends.specs.Fields.{controllerOk, controllerMode, controllerEnd, controllerRead, controllerWith, controllerFields}
+use Rattle.ends.specs.Fields.{controllerWasRead, controllerOk, controllerMode, controllerEnd, controllerRead, controllerWith, controllerFields}
 
 module _ (c : Controller) (set : c .i .0 ≡ 0 → ⊥) where
   pub no-j : c .j .0 ≡ 0 → IllFormed ≡ controllerRead c
@@ -155,3 +155,26 @@ was-read c {e} h =
     by-test (controllerOk c)
     (λ t. let q : Is (controllerEnd c) ≡ Is e = rw t at h in (t, cc))
     (λ f. let q : IllFormed ≡ Is e = rw f at h in let z : _≡_ {A = ℕ} 0 1 = cc in absurd (omega (arith, z)))
+
+pub was-read-so : (c : Controller) → controllerWasRead (controllerRead c) ≡ controllerOk c
+unfolding controllerRead if_then_else_
+was-read-so c = by-test (controllerOk c) (λ t. rw t) (λ f. rw f)
+
+pub was-ok : {read : ControllerRead} {b : Bool} (c : Controller) → read ≡ controllerRead c → b ≡ controllerWasRead read → b ≡ controllerOk c
+was-ok c f g = g ∙ ap controllerWasRead f ∙ was-read-so c
+
+-- the mode, of fields that are not tested
+module _ (c : Controller) where
+  pub mode-accept : (c .i .0 ≡ 0 → ⊥) → record { used = c .used; mode = Accept (c .j) (c .i); up = c .up } ≡ controllerEnd c
+  unfolding controllerMode if_then_else_
+  mode-accept i = rw (ne-eqb (c .i .0) 0 i)
+
+  pub mode-idle : c .i .0 ≡ 0 → c .last .0 ≡ 0 → record { used = c .used; mode = Idle; up = c .up } ≡ controllerEnd c
+  unfolding controllerMode if_then_else_
+  mode-idle i l = rw (eq-eqb (c .i .0) 0 i, eq-eqb (c .last .0) 0 l)
+
+  pub mode-ack : c .i .0 ≡ 0 → (c .last .0 ≡ 0 → ⊥) → record { used = c .used; mode = Ack (c .last); up = c .up } ≡ controllerEnd c
+  unfolding controllerMode if_then_else_
+  mode-ack i l = rw (eq-eqb (c .i .0) 0 i, ne-eqb (c .last .0) 0 l)
+
+pub ruleset modes = (mode-accept, mode-idle, mode-ack)

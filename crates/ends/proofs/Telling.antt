@@ -8,12 +8,17 @@ use Rattle.protocol.specs.Ends as rules
 use Rattle.protocol.specs.Relabel.{in-report, in-mode, in-console}
 use Rattle.ends.specs.Means.{Beside, reportBack}
 use Rattle.ends.specs.Console.{modeBack, end}
-use Rattle.ends.specs.Fields.{consoleOk, consoleEnd, consoleWith}
-use Rattle.ends.specs.InRules.{consoleMeans, consoleBack, delivered, deliveredBeside}
+use Rattle.ends.specs.Controller as controller
+use Rattle.ends.specs.Fields.{consoleOk, consoleEnd, consoleWith, controllerOk, controllerEnd, controllerWith}
+use Rattle.ends.specs.InRules.{consoleMeans, consoleBack, controllerMeans, controllerBack, delivered, deliveredBeside}
 use Rattle.ends.specs.declared.console.Mode.{Mode}
 use Rattle.ends.specs.declared.console.Mode.the-variants.{Idle, NeedI, Send}
 use Rattle.ends.specs.declared.fields.Console.{Console}
+use Rattle.ends.specs.declared.controller.Mode as controller-mode
+use Rattle.ends.specs.declared.controller.Mode.the-variants as controller-modes
+use Rattle.ends.specs.declared.fields.Controller.{Controller}
 use Rattle.ends.proofs.ConsoleFields.{fields-back}
+use Rattle.ends.proofs.ControllerFields.{fields-back as controller-back}
 
 -- a message beside the report changes nothing of what is reported
 pub report-told : (k : List ℕ) (r : rules.Report Beside) → reportBack r ≡ reportBack (in-report (λ _. k) r)
@@ -45,3 +50,12 @@ fields-of u (Send l) up m = refl
 
 pub unchanged : (c : Console) → length (c .message) ≡ 16 → consoleOk c ≡ true → consoleBack (consoleMeans c) ≡ c
 unchanged c long ok = fields-of (c .used .0) (consoleEnd c .mode) (c .up) (c .message) ∙ fields-back c long ok
+
+-- the fields of a well-formed controller, by way of the rules
+pub controller-fields-of : (u : ℕ) (k : controller-mode.Mode) (up : Bool) → controllerBack (controller.end (record { used = record { 0 = u }; mode = k; up = up })) ≡ controllerWith (record { 0 = u }) k up
+controller-fields-of u controller-mode.Mode.Idle up = refl
+controller-fields-of u (controller-modes.Accept j i) up = refl
+controller-fields-of u (controller-modes.Ack l) up = refl
+
+pub controller-unchanged : (c : Controller) → controllerOk c ≡ true → controllerBack (controllerMeans c) ≡ c
+controller-unchanged c ok = controller-fields-of (c .used .0) (controllerEnd c .mode) (c .up) ∙ controller-back c ok

@@ -40,6 +40,10 @@ consoleEnd c = record { used = c .used; mode = consoleMode c; up = c .up }
 unfoldable pub consoleRead : Console → ConsoleRead
 consoleRead c = if consoleOk c then console-read.Is (consoleEnd c) else console-read.IllFormed
 
+abbrev pub consoleWasRead : ConsoleRead → Bool
+consoleWasRead console-read.IllFormed = false
+consoleWasRead (console-read.Is e) = true
+
 abbrev pub consoleWith : J → Mode → Bool → List ℕ → Console
 consoleWith used Mode.Idle up m =
     record { used = used; held = false; message = spaces; j = record { 0 = 0 }; last = record { 0 = 0 }; up = up }
@@ -74,6 +78,10 @@ controllerEnd c = record { used = c .used; mode = controllerMode c; up = c .up }
 
 unfoldable pub controllerRead : Controller → ControllerRead
 controllerRead c = if controllerOk c then controller-read.Is (controllerEnd c) else controller-read.IllFormed
+
+abbrev pub controllerWasRead : ControllerRead → Bool
+controllerWasRead controller-read.IllFormed = false
+controllerWasRead (controller-read.Is e) = true
 
 abbrev pub controllerWith : I → controller.Mode → Bool → Controller
 controllerWith used controller.Mode.Idle up =

@@ -5,8 +5,8 @@ use wire::I;
 use wire::J;
 ghost use mathlib.Core.Path.{_≡_};
 ghost use mathlib.Core.Bool.{true, false};
-ghost use Rattle.ends.specs.Fields.{consoleRead, consoleFields, freshConsole, downedConsole};
-ghost use Rattle.ends.specs.Fields.{controllerRead, controllerFields, freshController, downedController};
+ghost use Rattle.ends.specs.Fields.{consoleOk, consoleRead, consoleWasRead, consoleEnd, consoleFields, freshConsole, downedConsole};
+ghost use Rattle.ends.specs.Fields.{controllerOk, controllerRead, controllerWasRead, controllerEnd, controllerFields, freshController, downedController};
 
 pub struct Console {
     pub used: J,
@@ -80,6 +80,52 @@ pub fn read_console(c: Console) -> ConsoleRead
         read_holding(c)
     } else {
         read_idle(c)
+    }
+}
+
+pub fn console_was_read(read: ConsoleRead) -> bool
+    ensures { λ r. ⌜ r ≡ consoleWasRead read ⌝ }
+{
+    match read {
+        ConsoleRead::IllFormed => false,
+        ConsoleRead::Is(_) => true,
+    }
+}
+
+// Whether a console's fields are well formed.
+pub fn console_ok(c: Console) -> bool
+    ensures { λ r. ⌜ r ≡ consoleOk c ⌝ }
+{
+    let read = read_console(c);
+    console_was_read(read)
+}
+
+// The end that a console's fields stand for, where they are known to be well formed: nothing is tested.
+pub fn console_end(c: Console) -> console::End
+    ensures { λ r. ⌜ r ≡ consoleEnd c ⌝ }
+{
+    let used = c.used;
+    let up = c.up;
+    let j = c.j;
+    let last = c.last;
+    if !c.held {
+        return console::End {
+            used,
+            mode: console::Mode::Idle,
+            up,
+        };
+    }
+    if j.0 == 0 {
+        return console::End {
+            used,
+            mode: console::Mode::Send(last),
+            up,
+        };
+    }
+    console::End {
+        used,
+        mode: console::Mode::NeedI(j),
+        up,
     }
 }
 
@@ -204,6 +250,53 @@ pub fn read_controller(c: Controller) -> ControllerRead
         return ControllerRead::IllFormed;
     }
     controller_is(c, controller::Mode::Ack(last))
+}
+
+pub fn controller_was_read(read: ControllerRead) -> bool
+    ensures { λ r. ⌜ r ≡ controllerWasRead read ⌝ }
+{
+    match read {
+        ControllerRead::IllFormed => false,
+        ControllerRead::Is(_) => true,
+    }
+}
+
+// Whether a controller's fields are well formed.
+pub fn controller_ok(c: Controller) -> bool
+    ensures { λ r. ⌜ r ≡ controllerOk c ⌝ }
+{
+    let read = read_controller(c);
+    controller_was_read(read)
+}
+
+// The end that a controller's fields stand for, where they are known to be well formed: nothing is tested.
+pub fn controller_end(c: Controller) -> controller::End
+    ensures { λ r. ⌜ r ≡ controllerEnd c ⌝ }
+{
+    let used = c.used;
+    let up = c.up;
+    let j = c.j;
+    let i = c.i;
+    let last = c.last;
+    if i.0 != 0 {
+        return controller::End {
+            used,
+            mode: controller::Mode::Accept(j, i),
+            up,
+        };
+    }
+    if last.0 == 0 {
+        return controller::End {
+            used,
+            mode: controller::Mode::Idle,
+            up,
+        };
+    }
+    controller::End {
+        used,
+        mode: controller::Mode::Ack(last),
+        up,
+    }
 }
 
 pub fn controller_of(e: controller::End) -> Controller

@@ -32,7 +32,7 @@ isPlace tens ones = digit tens && (digit ones && leb (placeOf tens ones) 63)
 
 -- one digit 0 to 3
 unfoldable pub isCopies : ℕ → Bool
-isCopies b = digit b && leb (copiesOf b) 3
+isCopies b = leb 0x30 b && leb b 0x33
 
 -- each field is as above, and fields that the letter doesn't use are 0 digits and spaces
 unfoldable pub placeFits : Bool → ℕ → ℕ → Bool

@@ -3,7 +3,7 @@ ghost use mathlib.Core.Path.{_≡_};
 ghost use Prim.Native.Nat.{_≤_, _<_};
 ghost use lib.ListN.{length};
 ghost use Rattle.wire.specs.Frame.{field};
-ghost use Rattle.records.specs.Record.{digit, placeOf, placeFits, copiesFit, messageFits, fieldsFit, illFormed, recordOf, recordRead};
+ghost use Rattle.records.specs.Record.{digit, placeOf, copiesOf, placeFits, copiesFit, messageFits, fieldsFit, illFormed, recordOf, recordRead};
 use crate::Record;
 use letters::Found;
 use letters::Line;
@@ -73,6 +73,13 @@ fn place_of(tens: u8, ones: u8) -> usize
     10 * (tens - b'0') as usize + (ones - b'0') as usize
 }
 
+fn copies_of(b: u8) -> usize
+    requires { ⌜ 0x30 ≤ b ⌝ }
+    ensures { λ r. ⌜ r ≡ copiesOf b ⌝ }
+{
+    (b - b'0') as usize
+}
+
 fn message_at(s: &[u8]) -> [u8; 16]
     requires { ⌜ length (now s) ≡ 21 ⌝ }
     ensures { λ r. ⌜ r ≡ field (now (s .entry)) 4 16 ⌝ }
@@ -117,7 +124,7 @@ fn record_of(s: &[u8], line: Line) -> Record
         Record {
             found: Found::Line(line),
             place: place_of(s[1], s[2]),
-            copies: (s[3] - b'0') as usize,
+            copies: copies_of(s[3]),
             message: message_at(s),
         }
     } else {

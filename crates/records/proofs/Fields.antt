@@ -7,6 +7,7 @@ use native.Mathlib.Omega.{arith}
 use borrow.Author.Tests.{ne-eqb, eq-eqb, leb-true}
 use lib.ListN.{length, getD}
 use lib.Dec.{eqb, leb}
+use Rattle.ground.specs.Cell.{isMessage}
 use Rattle.ground.specs.Choice.{if_then_else_}
 use Rattle.ground.proofs.Tests.{and-left, and-right}
 use Rattle.wire.specs.Frame.{field}
@@ -41,6 +42,12 @@ module _ (l : Line) (s : List ℕ) {r : Bool} (e : r ≡ fieldsFit l s) (t : r �
   pub copies-good : isCopies cell-3 ≡ true
   unfolding fieldsFit copiesFit
   copies-good = and-left (isCopies cell-3) _ (and-left (copiesFit (l .copies) cell-3) _ (and-right (placeFits (l .place) tens ones) _ all))
+
+  pub message-good : isMessage (field s 4 16) ≡ true
+  unfolding fieldsFit messageFits
+  message-good =
+      and-left (isMessage (field s 4 16)) _
+      (and-left (messageFits (l .message) (field s 4 16)) _ (and-right (copiesFit (l .copies) cell-3) _ (and-right (placeFits (l .place) tens ones) _ all)))
 
   pub tens-digit : 0x30 ≤ getD s 1 0
   unfolding isPlace

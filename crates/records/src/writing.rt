@@ -11,7 +11,7 @@ fn letter_cell(letter: u8, report: Report) -> u8
         Report::Delivered => letter,
         Report::Ok => letter,
         Report::Lost => letter,
-        Report::Refused(n) => { if n == 1 { b'?' } else { letter } }
+        Report::Refused(n) => if n == 1 { b'?' } else { letter },
     }
 }
 

@@ -1,7 +1,7 @@
 -- What callers may count on: a record that is read is within the bounds, well formed or not, and a line has 27 bytes.
 use Prim.Native.Nat.{ℕ, _≤_, _<_}
-use mathlib.Core.Path.{_≡_, refl, sym, ap, _∙_}
-use mathlib.Core.Bool.{Bool, true, false, false≢true}
+use mathlib.Core.Path.{_≡_, refl, ap, _∙_}
+use mathlib.Core.Bool.{true, false, false≢true}
 use mathlib.Core.List.{List, [], _∷_, _++_}
 use native.Mathlib.Omega.{arith}
 use borrow.Author.Tests.{leb-true}
@@ -9,8 +9,7 @@ use lib.ListN.{length, getD, length-append}
 use lib.Dec.{eqb, leb}
 use Rattle.ground.specs.Cell.{cells, isMessage}
 use Rattle.ground.specs.Choice.{if_then_else_}
-use Rattle.ground.proofs.Tests.{by-test, and-left, and-right}
-use Rattle.wire.specs.Frame.{field}
+use Rattle.ground.proofs.Tests.{by-test, and-right}
 use Rattle.protocol.specs.Letters.{letter}
 use Rattle.letters.specs.Lines.{foundOf}
 use Rattle.letters.specs.declared.Found.{Found}
@@ -19,7 +18,7 @@ use Rattle.ends.specs.declared.Report.{Report}
 use Rattle.ends.specs.declared.Report.the-variants as report
 use Rattle.records.specs.declared.Record.{Record}
 use Rattle.records.specs.Line.{letterCell, reportCells, decimals, lineBytes}
-use Rattle.records.specs.Record.{digit, placeOf, copiesOf, isPlace, isCopies, letterFits, wellFormed, fields, illFormed, recordRead}
+use Rattle.records.specs.Record.{digit, placeOf, copiesOf, isPlace, isCopies, letterFits, wellFormed, fields, illFormed, listRecord}
 use Rattle.records.proofs.Cells.{length-decimals}
 use Rattle.records.proofs.Fields.{place-good, copies-good, message-good}
 
@@ -35,12 +34,12 @@ copies-below b e = let h = leb-true b 0x33 (and-right (leb 0x30 b) _ e) in omega
 
 -- what is read of a record that is well formed, and of one that is not
 module _ (s : List ℕ) where
-  pub read-well : wellFormed s ≡ true → recordRead s ≡ fields (foundOf (letter (getD s 0 0))) s
-  unfolding recordRead if_then_else_
+  pub read-well : wellFormed s ≡ true → listRecord s ≡ fields (foundOf (letter (getD s 0 0))) s
+  unfolding listRecord if_then_else_
   read-well e = rw e
 
-  pub read-ill : wellFormed s ≡ false → recordRead s ≡ illFormed
-  unfolding recordRead if_then_else_
+  pub read-ill : wellFormed s ≡ false → listRecord s ≡ illFormed
+  unfolding listRecord if_then_else_
   read-ill e = rw e
 
 -- place, copies and message are within their bounds
@@ -61,7 +60,7 @@ ill-within : Within illFormed
 unfolding illFormed isMessage cells
 ill-within = (omega arith, omega arith, refl)
 
-pub read-within : (s : List ℕ) → Within (recordRead s)
+pub read-within : (s : List ℕ) → Within (listRecord s)
 read-within s =
     by-test (wellFormed s)
     (λ e. rw (read-well s e) (fields-within (foundOf (letter (getD s 0 0))) s (fitting s e)))
@@ -72,7 +71,7 @@ ill-nothing : illFormed .found ≡ found.Nothing
 unfolding illFormed
 ill-nothing = refl
 
-pub read-found : (s : List ℕ) → (recordRead s .found ≡ found.Nothing → ⊥) → wellFormed s ≡ true
+pub read-found : (s : List ℕ) → (listRecord s .found ≡ found.Nothing → ⊥) → wellFormed s ≡ true
 read-found s h =
     by-test (wellFormed s) (λ e. e)
     (λ e. absurd (h (ap (λ (r : Record). r .found) (read-ill s e) ∙ ill-nothing)))

@@ -1,12 +1,12 @@
 -- What is read, from the answers of the calls that read it.
 use Prim.Native.Nat.{ℕ, _≤_}
 use mathlib.Core.Path.{_≡_, sym, _∙_}
-use mathlib.Core.Bool.{Bool, true, false, _&&_}
+use mathlib.Core.Bool.{Bool, true, false}
 use mathlib.Core.List.{List}
 use native.Mathlib.Omega.{arith}
 use borrow.Author.Tests.{ne-eqb, eq-eqb, leb-true}
 use lib.ListN.{length, getD}
-use lib.Dec.{eqb, leb}
+use lib.Dec.{leb}
 use Rattle.ground.specs.Cell.{isMessage}
 use Rattle.ground.specs.Choice.{if_then_else_}
 use Rattle.ground.proofs.Tests.{and-left, and-right}
@@ -18,7 +18,7 @@ use Rattle.letters.specs.declared.Line.{Line}
 use Rattle.letters.specs.declared.Found.{Found}
 use Rattle.letters.specs.declared.Found.the-variants as found
 use Rattle.records.specs.declared.Record.{Record}
-use Rattle.records.specs.Record.{digit, placeOf, copiesOf, isPlace, isCopies, placeFits, copiesFit, messageFits, fieldsFit, letterFits, wellFormed, fields, illFormed, recordRead, recordOf}
+use Rattle.records.specs.Record.{digit, placeOf, copiesOf, isPlace, isCopies, placeFits, copiesFit, messageFits, fieldsFit, wellFormed, fields, illFormed, listRecord, recordOf}
 
 -- ## Fields that fit, one by one
 
@@ -74,15 +74,15 @@ message-elements s e = sym (field-elements 16 s 4 (omega (arith, e)))
 
 -- ## A read: the length is wrong, the letter is an action's, and it is none
 
-pub read-length : (s : List ℕ) {x : Record} → (length s ≡ 21 → ⊥) → x ≡ illFormed → x ≡ recordRead s
-unfolding recordRead wellFormed if_then_else_
+pub read-length : (s : List ℕ) {x : Record} → (length s ≡ 21 → ⊥) → x ≡ illFormed → x ≡ listRecord s
+unfolding listRecord wellFormed if_then_else_
 read-length s h f = rw (ne-eqb (length s) 21 h) f
 
 module _ (s : List ℕ) {f : Found} {x : Record} (h : length s ≡ 21) (e : f ≡ foundOf (letter (getD s 0 0))) where
-  pub read-line : {l : Line} → f ≡ found.Line l → x ≡ recordOf l s → x ≡ recordRead s
-  unfolding recordRead wellFormed recordOf
+  pub read-line : {l : Line} → f ≡ found.Line l → x ≡ recordOf l s → x ≡ listRecord s
+  unfolding listRecord wellFormed recordOf
   read-line g k = rw (eq-eqb (length s) 21 h, ← e, g) k
 
-  pub read-nothing : f ≡ found.Nothing → x ≡ illFormed → x ≡ recordRead s
-  unfolding recordRead wellFormed if_then_else_
+  pub read-nothing : f ≡ found.Nothing → x ≡ illFormed → x ≡ listRecord s
+  unfolding listRecord wellFormed if_then_else_
   read-nothing g k = rw (eq-eqb (length s) 21 h, ← e, g) k

@@ -5,7 +5,7 @@ use mathlib.Core.Bool.{Bool, true, false, _&&_, and-true, and-false, true≢fals
 use mathlib.Core.List.{List}
 use native.Mathlib.Omega.{arith}
 use borrow.Author.Tests.{eqb-true, le-leb, lt-leb, leb-true, leb-false}
-use lib.ListN.{length, getD, replicate}
+use lib.ListN.{length, getD}
 use lib.Dec.{eqb, leb}
 use Rattle.ground.specs.Cell.{cells, isMessage, spaces}
 use Rattle.ground.specs.Every.{filled}

@@ -16,7 +16,7 @@ use Rattle.ends.specs.declared.Report.{Report}
 use Rattle.ends.specs.declared.Report.the-variants as report
 use Rattle.records.specs.declared.Record.{Record}
 use Rattle.records.specs.Line.{decimals, lineBytes, lineWritten}
-use Rattle.records.specs.Record.{isPlace, isCopies, placeFits, copiesFit, messageFits, fieldsFit, wellFormed, fields, illFormed, recordRead}
+use Rattle.records.specs.Record.{isPlace, isCopies, placeFits, copiesFit, messageFits, fieldsFit, wellFormed, fields, illFormed, listRecord}
 
 -- "START FILLER 03 "
 abbrev pub start : List ℕ
@@ -39,8 +39,8 @@ is letter byte uses place copies message =
     }
 
 -- "P000START FILLER 03 "
-pub start-read : recordRead (laid 0x50 0x30 0x30 0x30 start) ≡ is l.P 0x50 (false, false, true) 0 0 start
-unfolding recordRead wellFormed fields fieldsFit placeFits copiesFit messageFits isPlace isCopies isMessage cells filled line letters among letter lineOf if_then_else_
+pub start-read : listRecord (laid 0x50 0x30 0x30 0x30 start) ≡ is l.P 0x50 (false, false, true) 0 0 start
+unfolding listRecord wellFormed fields fieldsFit placeFits copiesFit messageFits isPlace isCopies isMessage cells filled line letters among letter lineOf if_then_else_
 start-read = refl
 
 -- "P000", "Q001", "D002", "R001", "S633", "L090", "M630" and "X000", each with 16 spaces
@@ -56,8 +56,8 @@ good =
     ∷ (laid 0x58 0x30 0x30 0x30 spaces, is l.X 0x58 (false, false, false) 0 0 spaces)
     ∷ []
 
-good-read : map (λ (v : List ℕ × Record). recordRead (v .0)) good ≡ map (λ (v : List ℕ × Record). v .1) good
-unfolding recordRead wellFormed fields fieldsFit placeFits copiesFit messageFits isPlace isCopies isMessage cells filled line letters among letter lineOf if_then_else_
+good-read : map (λ (v : List ℕ × Record). listRecord (v .0)) good ≡ map (λ (v : List ℕ × Record). v .1) good
+unfolding listRecord wellFormed fields fieldsFit placeFits copiesFit messageFits isPlace isCopies isMessage cells filled line letters among letter lineOf if_then_else_
 good-read = refl
 
 -- place 64, 70 and 99, and bytes beside the digits
@@ -104,8 +104,8 @@ bad-ends =
     ∷ (laid 0x50 0x30 0x30 0x30 start ++ (0x0A ∷ []))
     ∷ []
 
-bad-read : map recordRead (bad-places ++ bad-copies ++ unused ++ no-cells ++ no-letters ++ bad-ends) ≡ replicate 26 illFormed
-unfolding recordRead wellFormed fields illFormed fieldsFit placeFits copiesFit messageFits isPlace isCopies isMessage cells filled line letters among letter lineOf if_then_else_
+bad-read : map listRecord (bad-places ++ bad-copies ++ unused ++ no-cells ++ no-letters ++ bad-ends) ≡ replicate 26 illFormed
+unfolding listRecord wellFormed fields illFormed fieldsFit placeFits copiesFit messageFits isPlace isCopies isMessage cells filled line letters among letter lineOf if_then_else_
 bad-read = refl
 
 -- ## Lines

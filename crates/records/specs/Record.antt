@@ -70,8 +70,8 @@ fields f s =
 unfoldable pub illFormed : Record
 illFormed = record { found = found.Nothing; place = 0; copies = 0; message = spaces }
 
-unfoldable pub recordRead : List ℕ → Record
-recordRead s = if wellFormed s then fields (foundOf (letter (getD s 0 0))) s else illFormed
+unfoldable pub listRecord : List ℕ → Record
+listRecord s = if wellFormed s then fields (foundOf (letter (getD s 0 0))) s else illFormed
 
 -- the same of 21 bytes whose letter has this line
 unfoldable pub recordOf : Line → List ℕ → Record

@@ -3,7 +3,7 @@ ghost use mathlib.Core.Path.{_≡_};
 ghost use Prim.Native.Nat.{_≤_, _<_};
 ghost use lib.ListN.{length};
 ghost use Rattle.wire.specs.Frame.{field};
-ghost use Rattle.records.specs.Record.{digit, placeOf, copiesOf, placeFits, copiesFit, messageFits, fieldsFit, illFormed, recordOf, recordRead};
+ghost use Rattle.records.specs.Record.{digit, placeOf, copiesOf, placeFits, copiesFit, messageFits, fieldsFit, illFormed, recordOf, listRecord};
 use crate::Record;
 use letters::Found;
 use letters::Line;
@@ -133,7 +133,7 @@ fn record_of(s: &[u8], line: Line) -> Record
 }
 
 pub fn read(s: &[u8]) -> Record
-    ensures { λ r. ⌜ r ≡ recordRead (now (s .entry)) ⌝ }
+    ensures { λ r. ⌜ r ≡ listRecord (now (s .entry)) ⌝ }
 {
     if s.len() != 21 {
         return ill_formed();

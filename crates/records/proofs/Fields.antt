@@ -2,16 +2,17 @@
 use Prim.Native.Nat.{ℕ, _≤_}
 use mathlib.Core.Path.{_≡_, sym, _∙_}
 use mathlib.Core.Bool.{Bool, true, false}
-use mathlib.Core.List.{List}
+use mathlib.Core.List.{List, _++_}
 use native.Mathlib.Omega.{arith}
 use borrow.Author.Tests.{ne-eqb, eq-eqb, leb-true}
-use lib.ListN.{length, getD}
+use lib.ListN.{length, getD, take, drop, length-drop}
+use lib.Seq.{length-take-le}
 use lib.Dec.{leb}
 use Rattle.ground.specs.Cell.{isMessage}
 use Rattle.ground.specs.Choice.{if_then_else_}
 use Rattle.ground.proofs.Tests.{and-left, and-right}
 use Rattle.wire.specs.Frame.{field}
-use Rattle.wire.proofs.Elements.{elements, field-elements}
+use Rattle.wire.proofs.Copies.{copied}
 use Rattle.protocol.specs.Letters.{letter}
 use Rattle.letters.specs.Lines.{foundOf}
 use Rattle.letters.specs.declared.Line.{Line}
@@ -69,8 +70,9 @@ pub record-fails : (l : Line) (s : List ℕ) {r : Bool} {x : Record} → r ≡ f
 unfolding recordOf if_then_else_
 record-fails l s e t f = rw (← e, t) f
 
-pub message-elements : (s : List ℕ) → length s ≡ 21 → elements s 4 16 ≡ field s 4 16
-message-elements s e = sym (field-elements 16 s 4 (omega (arith, e)))
+-- the message, copied over all of an array
+pub message-copied : (s d : List ℕ) {x : List ℕ} → length s ≡ 21 → length d ≡ 16 → x ≡ take (length (field s 4 16)) (field s 4 16) ++ drop (length (field s 4 16)) d → x ≡ field s 4 16
+message-copied s d l m e = copied (field s 4 16) d e (m ∙ sym (length-take-le 16 (drop 4 s) (rw (length-drop 4 s, l) (omega arith))))
 
 -- ## A read: the length is wrong, the letter is an action's, and it is none
 

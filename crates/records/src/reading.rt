@@ -84,24 +84,9 @@ fn message_at(s: &[u8]) -> [u8; 16]
     requires { ⌜ length (now s) ≡ 21 ⌝ }
     ensures { λ r. ⌜ r ≡ field (now (s .entry)) 4 16 ⌝ }
 {
-    [
-        s[4],
-        s[5],
-        s[6],
-        s[7],
-        s[8],
-        s[9],
-        s[10],
-        s[11],
-        s[12],
-        s[13],
-        s[14],
-        s[15],
-        s[16],
-        s[17],
-        s[18],
-        s[19],
-    ]
+    let mut m = [0; 16];
+    bytes::copy(&s[4..20], &mut m);
+    m
 }
 
 fn ill_formed() -> Record

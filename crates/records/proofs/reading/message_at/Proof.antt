@@ -1,6 +1,6 @@
--- `records::reading::message_at` meets its contract: its 16 elements are those of the field.
+-- `records::reading::message_at` meets its contract: what is copied over all of the array is the field.
 use borrow.Author.Needs.{needs}
-use Rattle.records.proofs.Fields.{message-elements}
+use Rattle.records.proofs.Fields.{message-copied}
 use Rattle.records.proofs.reading.message_at.Statement.{statement}
 use Rattle.records.proofs.reading.message_at.Tie as tie
 
@@ -12,16 +12,5 @@ message-at-spec =
     (λ c. search needs)
     (λ c. search needs)
     (λ c. search needs)
-    (λ c. search needs)
-    (λ c. search needs)
-    (λ c. search needs)
-    (λ c. search needs)
-    (λ c. search needs)
-    (λ c. search needs)
-    (λ c. search needs)
-    (λ c. search needs)
-    (λ c. search needs)
-    (λ c. search needs)
-    (λ c. search needs)
-    (λ c. search needs)
-    (λ c. search message-elements))
+    (λ c κs. search needs)
+    (λ c. search (message-copied, needs)))

@@ -1,0 +1,60 @@
+-- Programs that the promises shut out, each at one input.
+use Prim.Native.Nat.{ℕ}
+use mathlib.Core.Path.{_≡_, sym, ap, _∙_}
+use mathlib.Core.List.{List}
+use native.Mathlib.Omega.{arith}
+use lib.ListN.{getD, replicate}
+use contract.Lifetimes.{Lfts}
+use borrow.Fn.Kinds.{Dens, endedOf}
+use denote.Ref.{now}
+use denote.Triple.Clauses.{AtExit}
+use Rattle.ground.specs.Cell.{cells, isMessage}
+use Rattle.ground.specs.Choice.{if_then_else_}
+use Rattle.ground.specs.Every.{filled}
+use Rattle.protocol.specs.Letters.{line, letters, among, letter}
+use Rattle.letters.specs.Lines.{lineOf}
+use Rattle.letters.specs.declared.Line.{Line}
+use Rattle.letters.specs.declared.Found.the-variants as found
+use Rattle.ends.specs.declared.Report.the-variants as report
+use Rattle.records.specs.declared.Record.{Record}
+use Rattle.records.specs.Line.{decimals, lineBytes, lineWritten}
+use Rattle.records.specs.Record.{isPlace, isCopies, placeFits, copiesFit, messageFits, fieldsFit, wellFormed, illFormed, listRecord}
+use Rattle.records.proofs.Vectors.{start, laid, start-read}
+use Rattle.records.proofs.reading.read.Kinds as read-kinds
+use Rattle.records.proofs.reading.read.Reads as read
+use Rattle.records.proofs.writing.write_line.Kinds as write-line-kinds
+use Rattle.records.proofs.writing.write_line.Reads as write-line
+
+no-line : (l : Line) → found.Nothing ≡ found.Line l → ⊥
+no-line l e = let z : _≡_ {A = ℕ} 0 1 = cc in omega (arith, z)
+
+-- a reader
+module _ (κs : Lfts 1) (a : Dens κs read-kinds.ps) (x : Record) (s : AtExit (endedOf 1 read-kinds.ps read-kinds.r) κs) (meets : read.Post κs a x s) where
+  always-refuses : now (a .0) ≡ laid 0x50 0x30 0x30 0x30 start → x .found ≡ found.Nothing → ⊥
+  always-refuses e n =
+      no-line _ (sym n ∙ ap (λ (r : Record). r .found) (meets ∙ ap listRecord e ∙ start-read))
+
+  -- "P010START FILLER 03 ": a put uses no place
+  ignores-unused-fields : now (a .0) ≡ laid 0x50 0x30 0x31 0x30 start → (l : Line) → x .found ≡ found.Line l → ⊥
+  unfolding listRecord wellFormed illFormed fieldsFit placeFits copiesFit messageFits isPlace isCopies isMessage cells filled line letters among letter lineOf if_then_else_
+  ignores-unused-fields e l n = no-line l (sym (ap (λ (r : Record). r .found) (meets ∙ ap listRecord e)) ∙ n)
+
+-- a writer, lent 27 zero bytes
+module _ (κs : Lfts 1) (a : Dens κs write-line-kinds.ps) (s : AtExit (endedOf 1 write-line-kinds.ps write-line-kinds.r) κs) (zeros : now (a .0) ≡ replicate 27 0) (meets : write-line.Post κs a tt s) where
+  written : now (s .0) ≡ lineBytes (a .1 .0) (a .1 .1 .0) (a .1 .1 .1 .0) (a .1 .1 .1 .1 .0)
+  unfolding lineWritten if_then_else_
+  written = meets ∙ ap (λ (l : List ℕ). lineWritten l (a .1 .0) (a .1 .1 .0) (a .1 .1 .1 .0) (a .1 .1 .1 .1 .0)) zeros
+
+  changes-nothing : now (s .0) ≡ now (a .0) → ⊥
+  unfolding lineBytes decimals
+  changes-nothing k =
+      let q : replicate 27 0 ≡ lineBytes (a .1 .0) (a .1 .1 .0) (a .1 .1 .1 .0) (a .1 .1 .1 .1 .0) = sym zeros ∙ sym k ∙ written in
+      let z : _≡_ {A = ℕ} 0 0x20 = ap (λ (l : List ℕ). getD l 4 0) q in
+      omega (arith, z)
+
+  -- a refusal 1 whose letter is shown
+  shows-the-letter : a .1 .1 .1 .0 ≡ report.Refused 1 → getD (now (s .0)) 5 0 ≡ 0x50 → ⊥
+  unfolding lineBytes decimals if_then_else_
+  shows-the-letter e k =
+      let q : getD (now (s .0)) 5 0 ≡ 0x3F = ap (λ (l : List ℕ). getD l 5 0) (written ∙ ap (λ r. lineBytes (a .1 .0) (a .1 .1 .0) r (a .1 .1 .1 .1 .0)) e) in
+      omega (arith, q, k)

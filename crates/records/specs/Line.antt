@@ -1,0 +1,40 @@
+-- A line of the list program's output, 26 cells and 0x0A. Assumes nothing.
+use Prim.Native.Nat.{ℕ, zero, suc, _+_, _/_, _%_, _^_}
+use mathlib.Core.List.{List, [], _∷_, _++_}
+use lib.ListN.{length}
+use lib.Dec.{eqb}
+use Rattle.ground.specs.Choice.{if_then_else_}
+use Rattle.ends.specs.declared.Report.{Report}
+use Rattle.ends.specs.declared.Report.the-variants as report
+
+-- the last n decimal digits of a number
+unfoldable pub decimals : ℕ → ℕ → List ℕ
+decimals zero x = []
+decimals (suc n) x = (0x30 + x / 10 ^ n % 10) ∷ decimals n x
+
+-- the letter, or ? for refusal 1
+abbrev pub letterCell : ℕ → Report → ℕ
+letterCell letter report.Nothing = letter
+letterCell letter report.Delivered = letter
+letterCell letter report.Ok = letter
+letterCell letter report.Lost = letter
+letterCell letter (report.Refused n) = if eqb n 1 then 0x3F else letter
+
+-- DL, OK, LO (answer lost), -- (nothing to report) or the refusal number
+abbrev pub reportCells : Report → List ℕ
+reportCells report.Nothing = 0x2D ∷ 0x2D ∷ []
+reportCells report.Delivered = 0x44 ∷ 0x4C ∷ []
+reportCells report.Ok = 0x4F ∷ 0x4B ∷ []
+reportCells report.Lost = 0x4C ∷ 0x4F ∷ []
+reportCells (report.Refused n) = decimals 2 n
+
+-- record number, four digits; space; the letter; space; two cells; space; the delivered message or 16 spaces; 0x0A
+unfoldable pub lineBytes : ℕ → ℕ → Report → List ℕ → List ℕ
+lineBytes number letter report message =
+    decimals 4 number
+    ++ (0x20 ∷ letterCell letter report ∷ 0x20 ∷ (reportCells report ++ (0x20 ∷ (message ++ (0x0A ∷ [])))))
+
+-- a buffer of 27 bytes afterwards; one of another length stays as it was
+unfoldable pub lineWritten : List ℕ → ℕ → ℕ → Report → List ℕ → List ℕ
+lineWritten out number letter report message =
+    if eqb (length out) 27 then lineBytes number letter report message else out

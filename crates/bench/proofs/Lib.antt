@@ -8,7 +8,10 @@ pub mod ControllerStages
 pub mod Handing
 pub mod Knowing
 pub mod Losing
+pub mod Playing
 pub mod Refusing
 pub mod Rooms
+pub mod Running
+pub mod Standing
 pub mod Stepping
 pub mod Tables

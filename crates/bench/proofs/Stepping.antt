@@ -28,7 +28,7 @@ use Rattle.channels.proofs.Channel.{packets-length, channel-none}
 use Rattle.channels.proofs.Packets.{to-controller-coded, to-console-coded}
 use Rattle.bench.specs.Means.{benchOk, benchMeans, benchBack}
 use Rattle.bench.specs.Promise.{Result, benchRefused, benchTold, stepOf, benchStep, benchFresh}
-use Rattle.bench.specs.Within.{Within, within, withinTold, insideMeans, insideStep, insideOf, outcomeOf, actionOf, Lined, linedStep}
+use Rattle.bench.specs.Within.{Within, within, withinTold, insideMeans, insideStep, insideOf, benchOf, outcomeOf, actionOf, Lined, linedStep}
 use Rattle.bench.specs.declared.Action.{Action}
 use Rattle.bench.specs.declared.Bench.{Bench}
 use Rattle.bench.specs.declared.Outcome.{Outcome}
@@ -38,8 +38,8 @@ use Rattle.bench.specs.declared.inside.Told.{Told}
 -- ## The step of a letter that is an action
 
 -- the fields of a bench by its modes are those of what it means
-bench-of : (b : Inside) (out back : List ℕ) → outcomeOf (record { report = Nothing; message = spaces; after = b }) .bench ≡ benchBack (insideMeans b out back)
-unfolding outcomeOf benchBack insideMeans
+pub bench-of : (b : Inside) (out back : List ℕ) → benchOf b ≡ benchBack (insideMeans b out back)
+unfolding benchBack insideMeans
 bench-of b out back =
     λ i.
     record {
@@ -50,7 +50,7 @@ bench-of b out back =
     }
 
 -- what the private step tells, as the outcome has it
-told-so : (t : Told) (out back : List ℕ) (o : rules.Outcome ℕ (List ℕ)) → within t out back ≡ withinTold o → record { outcome = outcomeOf t; out = out; back = back } ≡ benchTold o
+pub told-so : (t : Told) (out back : List ℕ) (o : rules.Outcome ℕ (List ℕ)) → within t out back ≡ withinTold o → record { outcome = outcomeOf t; out = out; back = back } ≡ benchTold o
 unfolding within withinTold outcomeOf benchTold
 told-so t out back o e =
     (λ i. record { outcome = record { report = t .report; message = t .message; bench = bench-of (t .after) out back i }; out = out; back = back })
@@ -94,7 +94,7 @@ abbrev IsLine : Found → Type 0
 IsLine found.Nothing = ⊥
 IsLine (found.Line l) = Unit {0}
 
-found-line : (o : Option letters.Letter) (line : Line) → foundOf o ≡ found.Line line → (o ≡ some (letterMeans (line .letter))) × Lined line
+pub found-line : (o : Option letters.Letter) (line : Line) → foundOf o ≡ found.Line line → (o ≡ some (letterMeans (line .letter))) × Lined line
 unfolding Lined lineOf
 found-line none line e = absurd (subst IsLine (sym e) tt)
 found-line (some l) line e =

@@ -2,4 +2,5 @@ pub mod Asking
 pub mod Means
 pub mod Moving
 pub mod Promise
+pub mod Running
 pub mod Within

@@ -1,11 +1,11 @@
 -- What the private step promises, of a bench that is known to be well formed. Nothing of it stands in the promise of an entry. Assumes nothing.
-use Prim.Native.Nat.{ℕ, _<_, _^_}
+use Prim.Native.Nat.{ℕ, _+_, _-_, _<_, _^_}
 use mathlib.Core.Path.{_≡_}
 use mathlib.Core.Bool.{Bool, true, false, _&&_}
 use mathlib.Core.Option.{none, some}
-use mathlib.Core.List.{List}
+use mathlib.Core.List.{List, _++_}
 use lib.Dec.{leb, ltb}
-use lib.ListN.{length}
+use lib.ListN.{length, getD, drop}
 use Rattle.ground.specs.Choice.{if_then_else_}
 use Rattle.ground.specs.Cell.{isMessage}
 use Rattle.ground.specs.First.{refusal}
@@ -18,6 +18,10 @@ use Rattle.protocol.specs.Relabel.{in-console, in-console-act, in-controller-ac
 use Rattle.protocol.specs.WellFormed.{Well-formed}
 use Rattle.letters.specs.Lines.{letterMeans, lineOf}
 use Rattle.letters.specs.declared.Line.{Line}
+use Rattle.letters.specs.declared.Found.{Found}
+use Rattle.letters.specs.declared.Found.the-variants as found
+use Rattle.records.specs.Line.{lineBytes}
+use Rattle.records.specs.declared.Record.{Record}
 use Rattle.ends.specs.Means.{tested, reportBack}
 use Rattle.ends.specs.InRules.{delivered}
 use Rattle.ends.specs.Fields.{consoleEnd, consoleFields, controllerEnd, controllerFields}
@@ -32,6 +36,7 @@ use Rattle.ends.specs.declared.controller.Act as controller-act
 use Rattle.channels.specs.Packets.{toControllerBytes, toControllerRead, toConsoleBytes, toConsoleRead}
 use Rattle.channels.specs.Table.{channel, packets}
 use Rattle.bench.specs.Promise.{Result, stepOf}
+use Rattle.bench.specs.Running.{played, lines, recordsOf, limitOf}
 use Rattle.bench.specs.declared.Action.{Action}
 use Rattle.bench.specs.declared.Bench.{Bench}
 use Rattle.bench.specs.declared.Outcome.{Outcome}
@@ -160,20 +165,55 @@ insideOf b =
       returned = b .returned;
     }
 
-unfoldable pub outcomeOf : Told → Outcome
-outcomeOf t =
+abbrev pub benchOf : Inside → Bench
+benchOf b =
     record {
-      report = t .report;
-      message = t .message;
-      bench =
-          record {
-            console = consoleFields (t .after .console) (t .after .held);
-            controller = controllerFields (t .after .controller);
-            sent = t .after .sent;
-            returned = t .after .returned;
-          };
+      console = consoleFields (b .console) (b .held);
+      controller = controllerFields (b .controller);
+      sent = b .sent;
+      returned = b .returned;
     }
+
+unfoldable pub outcomeOf : Told → Outcome
+outcomeOf t = record { report = t .report; message = t .message; bench = benchOf (t .after) }
 
 -- the step of a letter that is an action
 unfoldable pub linedStep : Bench → Line → Action → List ℕ → List ℕ → Result
 linedStep b line a out back = stepOf (some (letterMeans (line .letter))) b a out back
+
+-- ## What the runner's parts promise
+
+-- a line that was found is one of the table
+abbrev pub FoundLined : Found → Type 0
+FoundLined found.Nothing = Unit {0}
+FoundLined (found.Line l) = Lined l
+
+abbrev pub actionIn : Line → Record → Action
+actionIn l r = record { letter = l .byte; place = r .place; copies = r .copies; message = r .message }
+
+-- a record that is not well formed is 1
+abbrev pub recordOutcome : Found → Record → Inside → List ℕ → List ℕ → rules.Outcome ℕ (List ℕ)
+recordOutcome found.Nothing r b out back = record { report = ends.refused 1; after = insideMeans b out back }
+recordOutcome (found.Line l) r b out back = rules.step counted isMessage (insideMeans b out back) (actionOf l (actionIn l r))
+
+unfoldable pub recordStep : Inside → List ℕ → List ℕ → Record → Within
+recordStep b out back r = withinTold (recordOutcome (r .found) r b out back)
+
+-- a record played: its line, and what is known afterwards
+pub record Played (b : Inside) (out back : List ℕ) (s : List ℕ) (number : ℕ) (after : Inside) (line out′ back′ : List ℕ) : Type 0 where
+  pub known : Known after out′ back′
+  pub written : line ≡ lineBytes number (getD s 0 0) (played (benchOf b) out back s .outcome .report) (played (benchOf b) out back s .outcome .message)
+  pub bench-is : benchOf after ≡ played (benchOf b) out back s .outcome .bench
+  pub out-is : out′ ≡ played (benchOf b) out back s .out
+  pub back-is : back′ ≡ played (benchOf b) out back s .back
+
+unfoldable pub endOf : ℕ → ℕ → ℕ
+endOf start len = if ltb (len - start) 21 then len else start + 21
+
+unfoldable pub linesOn : Inside → List ℕ → List ℕ → List ℕ → ℕ → List ℕ
+linesOn b out back input room = lines 1 (benchOf b) out back (recordsOf (limitOf room) input)
+
+-- the lines stand at the front of the output, and the rest of it is as it was
+pub record RunOn (all before after : List ℕ) (n : ℕ) : Type 0 where
+  pub number : n ≡ length all
+  pub whole : after ≡ all ++ drop (length all) before

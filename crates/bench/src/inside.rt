@@ -35,7 +35,7 @@ pub struct Told {
     pub after: Inside,
 }
 
-fn refused(n: u8, b: Inside) -> Told
+pub fn refused(n: u8, b: Inside) -> Told
     ensures { λ r. ⌜ r ≡ record { report = Report.Refused n; message = spaces; after = b } ⌝ }
 {
     Told {

@@ -2,6 +2,7 @@
 mod asks;
 mod inside;
 mod moves;
+mod run;
 
 use ends::Report;
 use ends::fields::Console;

@@ -1,0 +1,177 @@
+-- The runner's loop: the lines that are written, and those that are to come.
+use Prim.Native.Nat.{ℕ, zero, suc, _+_, _-_, _*_, _/_, _≤_, _<_}
+use mathlib.Core.Path.{_≡_, refl, sym, ap, subst, _∙_}
+use mathlib.Core.Bool.{true, false}
+use mathlib.Core.List.{List, [], _∷_, _++_, append-nil, append-assoc}
+use native.Mathlib.Omega.{arith}
+use native.Mathlib.Nat.{not-suc-le-zero}
+use lib.Dec.{ltb}
+use lib.ListN.{length, getD, take, drop, length-take, length-drop, length-append, take-append-drop, drop-of-length-le}
+use lib.Seq.{length-take-le, take-all, take-at, drop-at, drop-drop}
+use borrow.Author.Tests.{lt-ltb, le-ltb, ltb-true, ltb-false}
+use Rattle.ground.specs.Choice.{if_then_else_}
+use Rattle.ground.proofs.Tests.{by-test}
+use Rattle.records.specs.Line.{lineBytes}
+use Rattle.channels.proofs.Parts.{part, replaced, part-length}
+use Rattle.bench.specs.Running.{recordsOf, played, lines, limitOf}
+use Rattle.bench.specs.Within.{Known, benchOf, Played, endOf, linesOn, RunOn}
+use Rattle.bench.specs.declared.Bench.{Bench}
+use Rattle.bench.specs.declared.inside.Inside.{Inside}
+
+-- ## Records
+
+records-next : (m : ℕ) (s : List ℕ) → 0 < length s → recordsOf (suc m) s ≡ take 21 s ∷ recordsOf m (drop 21 s)
+unfolding recordsOf
+records-next m [] h = absurd (not-suc-le-zero h)
+records-next m (x ∷ s) h = refl
+
+records-none : (m : ℕ) → recordsOf m [] ≡ []
+unfolding recordsOf
+records-none zero = refl
+records-none (suc m) = refl
+
+-- the record that begins at a place
+pub record-is : (s : List ℕ) (start : ℕ) {end : ℕ} → start < length s → end ≡ endOf start (length s) → part s start end ≡ take 21 (drop start s)
+unfolding endOf if_then_else_
+record-is s start h e =
+    let l = length-drop start s in
+    by-test (ltb (length s - start) 21)
+    (λ y.
+    let k = ltb-true (length s - start) 21 y in
+    let f = rw y at e in
+    rw f (take-all (length s - start) (drop start s) (omega (arith, l)) ∙ sym (take-all 21 (drop start s) (omega (arith, l, k)))))
+    (λ n.
+    let f = rw n at e in
+    let g : start + 21 - start ≡ 21 = omega arith in
+    rw (f, g))
+
+pub end-short : (start len : ℕ) → len - start < 21 → len ≡ endOf start len
+unfolding endOf if_then_else_
+end-short start len h = rw (lt-ltb (len - start) 21 h)
+
+pub end-whole : (start len : ℕ) → 21 ≤ len - start → start + 21 ≡ endOf start len
+unfolding endOf if_then_else_
+end-whole start len h = rw (le-ltb (len - start) 21 h)
+
+pub ruleset record-ends = (end-short, end-whole)
+
+pub record-some : (s : List ℕ) (start end : ℕ) → start < end → end ≤ length s → 0 < length (part s start end)
+record-some s start end h k = let l = part-length s start end k in omega (arith, l, h)
+
+pub line-long : (output : List ℕ) (n limit room : ℕ) → n < limit → limit * 27 ≤ room → length output ≡ room → length (part output (n * 27) (n * 27 + 27)) ≡ 27
+line-long output n limit room h r l = part-length output (n * 27) (n * 27 + 27) (omega (arith, h, r, l)) ∙ omega arith
+
+-- ## The limit
+
+pub limit-most : (room : ℕ) → 9999 < room / 27 → 9999 ≡ limitOf room
+unfolding limitOf if_then_else_
+limit-most room h = rw (lt-ltb 9999 (room / 27) h)
+
+pub limit-room : (room : ℕ) → room / 27 ≤ 9999 → room / 27 ≡ limitOf room
+unfolding limitOf if_then_else_
+limit-room room h = rw (le-ltb 9999 (room / 27) h)
+
+pub ruleset limits = (limit-most, limit-room)
+
+pub limit-fits : (room : ℕ) → (limitOf room * 27 ≤ room) × (limitOf room ≤ 9999)
+unfolding limitOf if_then_else_
+limit-fits room =
+    by-test (ltb 9999 (room / 27)) (λ y. let k = ltb-true 9999 (room / 27) y in rw y (omega (arith, k), omega arith))
+    (λ n. let k = ltb-false 9999 (room / 27) n in rw n (omega (arith, k), omega (arith, k)))
+
+pub limit-low : (room : ℕ) {limit : ℕ} → limit ≡ limitOf room → limit ≤ 9999
+limit-low room e = let p = limit-fits room .1 in omega (arith, p, e)
+
+pub limit-roomy : (room : ℕ) {limit : ℕ} → limit ≡ limitOf room → limit * 27 ≤ room
+limit-roomy room e = let p = limit-fits room .0 in omega (arith, p, e)
+
+-- ## The loop
+
+-- what is written, and what is to come
+abbrev pub Along : List ℕ → List ℕ → List ℕ → ℕ → ℕ → Inside → List ℕ → List ℕ → List ℕ → Type 0
+Along all input before limit n b output out back =
+    (length output ≡ length before) × (drop (n * 27) output ≡ drop (n * 27) before) × (all ≡ take (n * 27) output ++ lines (n + 1) (benchOf b) out back (recordsOf (limit - n) (drop (n * 21) input)))
+
+pub along-first : (b : Inside) (input before out back : List ℕ) {limit : ℕ} → limit ≡ limitOf (length before) → Along (linesOn b out back input (length before)) input before limit 0 b before out back
+unfolding linesOn
+along-first b input before out back {limit} e =
+    (refl, refl, ap (λ (m : ℕ). lines 1 (benchOf b) out back (recordsOf m input)) (sym e ∙ omega arith))
+
+lines-next : (k : ℕ) (b : Bench) (out back s : List ℕ) (ss : List (List ℕ)) → lines k b out back (s ∷ ss)
+    ≡ lineBytes k (getD s 0 0) (played b out back s .outcome .report) (played b out back s .outcome .message) ++ lines (k + 1) (played b out back s .outcome .bench) (played b out back s .out) (played b out back s .back) ss
+unfolding lines
+lines-next k b out back s ss =
+    let r = played b out back s in
+    let f : suc k ≡ k + 1 = omega arith in
+    ap (λ (m : ℕ). lineBytes k (getD s 0 0) (r .outcome .report) (r .outcome .message) ++ lines m (r .outcome .bench) (r .out) (r .back) ss) f
+
+module _ (all input before output : List ℕ) (limit n : ℕ) (b : Inside) (out back : List ℕ) where
+  abbrev s : List ℕ
+  s = take 21 (drop (n * 21) input)
+
+  come : n < limit → n * 21 < length input → recordsOf (limit - n) (drop (n * 21) input) ≡ s ∷ recordsOf (limit - (n + 1)) (drop ((n + 1) * 21) input)
+  come h k =
+      let l = length-drop (n * 21) input in
+      let f : limit - n ≡ suc (limit - (n + 1)) = omega (arith, h) in
+      let g : n * 21 + 21 ≡ (n + 1) * 21 = omega arith in
+      ap (λ (m : ℕ). recordsOf m (drop (n * 21) input)) f ∙ records-next (limit - (n + 1)) (drop (n * 21) input) (omega (arith, l, k))
+      ∙ ap (λ (x : List ℕ). s ∷ recordsOf (limit - (n + 1)) x) (drop-drop 21 (n * 21) input ∙ ap (λ (m : ℕ). drop m input) g)
+
+  pub along-next : {after : Inside} {line out′ back′ : List ℕ} → Along all input before limit n b output out back → n < limit → limit * 27 ≤ length before → n * 21 < length input
+      → Played b out back s (n + 1) after line out′ back′ → length line ≡ 27
+      → Along all input before limit (n + 1) after (replaced output (n * 27) (n * 27 + 27) line) out′ back′
+  along-next {after} {line} {out′} {back′} v h r k p l =
+      let a = take (n * 27) output in
+      let z = drop 27 (drop (n * 27) output) in
+      let d : n * 27 + 27 - n * 27 ≡ 27 = omega arith in
+      let whole : replaced output (n * 27) (n * 27 + 27) line ≡ a ++ (line ++ z) = ap (λ (m : ℕ). a ++ (line ++ drop m (drop (n * 27) output))) d in
+      let la : length a ≡ n * 27 = length-take-le (n * 27) output (omega (arith, v .0, h, r)) in
+      let lz = length-drop 27 (drop (n * 27) output) in
+      let lo = length-drop (n * 27) output in
+      let l₁ = length-append a (line ++ z) in
+      let l₂ = length-append line z in
+      let l₃ = length-append a line in
+      let g : (n + 1) * 27 ≡ n * 27 + 27 = omega arith in
+      let front : length (a ++ line) ≡ (n + 1) * 27 = omega (arith, l₃, la, l) in
+      let split : a ++ (line ++ z) ≡ (a ++ line) ++ z = sym (append-assoc a line z) in
+      let taken : take ((n + 1) * 27) (a ++ (line ++ z)) ≡ a ++ line = ap (take ((n + 1) * 27)) split ∙ take-at (a ++ line) z ((n + 1) * 27) front in
+      let dropped : drop ((n + 1) * 27) (a ++ (line ++ z)) ≡ z = ap (drop ((n + 1) * 27)) split ∙ drop-at (a ++ line) z ((n + 1) * 27) front in
+      let rest : z ≡ drop ((n + 1) * 27) before = ap (drop 27) (v .1) ∙ drop-drop 27 (n * 27) before ∙ ap (λ (m : ℕ). drop m before) (sym g) in
+      let w = played (benchOf b) out back s in
+      let more : lines (n + 1) (benchOf b) out back (recordsOf (limit - n) (drop (n * 21) input))
+      ≡ line ++ lines (n + 1 + 1) (benchOf after) out′ back′ (recordsOf (limit - (n + 1)) (drop ((n + 1) * 21) input)) =
+      ap (lines (n + 1) (benchOf b) out back) (come h k)
+      ∙ lines-next (n + 1) (benchOf b) out back s (recordsOf (limit - (n + 1)) (drop ((n + 1) * 21) input))
+      ∙ (λ i. sym (p .written) i ++ lines (n + 1 + 1) (sym (p .bench-is) i) (sym (p .out-is) i) (sym (p .back-is) i) (recordsOf (limit - (n + 1)) (drop ((n + 1) * 21) input))) in
+      (
+        ap length whole ∙ omega (arith, l₁, l₂, lz, lo, la, l, v .0, h, r),
+        ap (drop ((n + 1) * 27)) whole ∙ dropped ∙ rest,
+        v .2 ∙ ap (λ (x : List ℕ). a ++ x) more
+        ∙ sym (append-assoc a line (lines (n + 1 + 1) (benchOf after) out′ back′ (recordsOf (limit - (n + 1)) (drop ((n + 1) * 21) input))))
+        ∙ ap (λ (x : List ℕ). x ++ lines (n + 1 + 1) (benchOf after) out′ back′ (recordsOf (limit - (n + 1)) (drop ((n + 1) * 21) input))) (sym taken ∙ ap (take ((n + 1) * 27)) (sym whole)),
+      )
+
+  pub along-turn : {end : ℕ} {after : Inside} {line out′ back′ : List ℕ} → Along all input before limit n b output out back → n < limit → limit * 27 ≤ length before → n * 21 < length input
+      → end ≡ endOf (n * 21) (length input) → Played b out back (part input (n * 21) end) (n + 1) after line out′ back′ → length line ≡ 27
+      → Along all input before limit (n + 1) after (replaced output (n * 27) (n * 27 + 27) line) out′ back′
+  along-turn {end} {after} {line} {out′} {back′} v h r k e p l =
+      along-next v h r k (subst (λ (x : List ℕ). Played b out back x (n + 1) after line out′ back′) (record-is input (n * 21) k e) p) l
+
+  -- no record is left
+  over : recordsOf (limit - n) (drop (n * 21) input) ≡ [] → Along all input before limit n b output out back → n ≤ limit → limit * 27 ≤ length before → RunOn all before output (n * 27)
+  unfolding lines
+  over e v h r =
+      let la : length (take (n * 27) output) ≡ n * 27 = length-take-le (n * 27) output (omega (arith, v .0, h, r)) in
+      let same : all ≡ take (n * 27) output = v .2 ∙ ap (λ (x : List (List ℕ)). take (n * 27) output ++ lines (n + 1) (benchOf b) out back x) e ∙ append-nil (take (n * 27) output) in
+      let number : n * 27 ≡ length all = sym la ∙ ap length (sym same) in
+      record {
+        number = number;
+        whole = sym (take-append-drop (n * 27) output) ∙ (λ i. sym same i ++ v .1 i) ∙ ap (λ (m : ℕ). all ++ drop m before) number;
+      }
+
+  pub over-limit : limit ≤ n → Along all input before limit n b output out back → n ≤ limit → limit * 27 ≤ length before → RunOn all before output (n * 27)
+  unfolding recordsOf
+  over-limit q v h r = let f : limit - n ≡ 0 = omega (arith, q) in over (ap (λ (m : ℕ). recordsOf m (drop (n * 21) input)) f) v h r
+
+  pub over-input : length input ≤ n * 21 → Along all input before limit n b output out back → n ≤ limit → limit * 27 ≤ length before → RunOn all before output (n * 27)
+  over-input q v h r = over (ap (recordsOf (limit - n)) (drop-of-length-le input {i = n * 21} q) ∙ records-none (limit - n)) v h r

@@ -1,0 +1,17 @@
+use borrow.Author.Needs.{needs}
+use Rattle.bench.proofs.Playing.{read-lined, turned}
+use Rattle.bench.proofs.run.turn.Statement.{statement}
+use Rattle.bench.proofs.run.turn.Tie as tie
+
+pub turn-spec : {M : Type 1} → statement M
+turn-spec =
+    tie.close
+    (tie.spec
+    (λ c. search needs)
+    (λ c κs. search needs)
+    (λ c κs. (search needs, search read-lined))
+    (λ c κs. search needs)
+    (λ c. search needs)
+    (λ c. search needs)
+    (λ c. search needs)
+    (λ c. search turned))

@@ -1,0 +1,48 @@
+-- The list program: its records, the step at every record, and a line for each. Assumes nothing.
+use Prim.Native.Nat.{ℕ, zero, suc, _/_}
+use mathlib.Core.List.{List, [], _∷_, _++_}
+use lib.Dec.{ltb}
+use lib.ListN.{length, getD, take, drop, replicate}
+use Rattle.ground.specs.Choice.{if_then_else_}
+use Rattle.letters.specs.declared.Found.{Found}
+use Rattle.letters.specs.declared.Found.the-variants as found
+use Rattle.records.specs.Line.{lineBytes}
+use Rattle.records.specs.Record.{listRecord}
+use Rattle.records.specs.declared.Record.{Record}
+use Rattle.bench.specs.Means.{benchBack}
+use Rattle.bench.specs.Promise.{Result, benchRefused, benchStep, freshRules}
+use Rattle.bench.specs.declared.Bench.{Bench}
+
+-- the first n records: 21 bytes each, the last may be short
+unfoldable pub recordsOf : ℕ → List ℕ → List (List ℕ)
+recordsOf zero s = []
+recordsOf (suc n) [] = []
+recordsOf (suc n) (x ∷ s) = take 21 (x ∷ s) ∷ recordsOf n (drop 21 (x ∷ s))
+
+-- a record that is not well formed is 1; any other is a step
+abbrev pub playedAs : Found → Record → Bench → List ℕ → List ℕ → Result
+playedAs found.Nothing r b out back = benchRefused 1 b out back
+playedAs (found.Line l) r b out back =
+    benchStep b (record { letter = l .byte; place = r .place; copies = r .copies; message = r .message }) out back
+
+unfoldable pub played : Bench → List ℕ → List ℕ → List ℕ → Result
+played b out back s = playedAs (listRecord s .found) (listRecord s) b out back
+
+-- a line for each record, the first of which has the number k
+unfoldable pub lines : ℕ → Bench → List ℕ → List ℕ → List (List ℕ) → List ℕ
+lines k b out back [] = []
+lines k b out back (s ∷ ss) =
+    let r = played b out back s in
+    lineBytes k (getD s 0 0) (r .outcome .report) (r .outcome .message) ++ lines (suc k) (r .outcome .bench) (r .out) (r .back) ss
+
+-- at most 9,999 records are read; and no more than there is room for lines of 27 bytes
+unfoldable pub limitOf : ℕ → ℕ
+limitOf room = if ltb 9999 (room / 27) then 9999 else room / 27
+
+-- the bench starts fresh with 0 and 0
+unfoldable pub listLines : ℕ → List ℕ → List ℕ
+listLines n s = lines 1 (benchBack (freshRules (record { 0 = 0 }) (record { 0 = 0 }))) (replicate 2048 0) (replicate 2048 0) (recordsOf n s)
+
+-- the whole output of the list program
+unfoldable pub listOutput : List ℕ → List ℕ
+listOutput s = listLines 9999 s

@@ -1,0 +1,110 @@
+// The runner: records in, a line for each out.
+use crate::Action;
+use crate::inside::Inside;
+use crate::inside::Told;
+use crate::inside::known;
+use crate::inside::refused;
+use letters::Found;
+use records::Record;
+ghost use Prim.Native.Nat.{_<_, _≤_};
+ghost use mathlib.Core.Path.{_≡_};
+ghost use lib.ListN.{length};
+ghost use Rattle.bench.specs.Running.{limitOf};
+ghost use Rattle.bench.specs.Within.{Known, within, FoundLined, recordStep, Played, endOf, linesOn, RunOn};
+
+// A record that is not well formed is 1.
+fn play(b: Inside, r: Record, out: &mut [u8], back: &mut [u8]) -> Told
+    requires { ⌜ Known b (now out) (now back) ⌝ }
+    requires { ⌜ FoundLined (r .found) ⌝ }
+    ensures { λ t. ⌜ within t (now (out .exit)) (now (back .exit)) ≡ recordStep b (now (out .entry)) (now (back .entry)) r ⌝ }
+{
+    let found = r.found;
+    match found {
+        Found::Nothing => refused(1, b),
+        Found::Line(line) => {
+            let message = r.message;
+            let a = Action {
+                letter: line.byte,
+                place: r.place,
+                copies: r.copies,
+                message,
+            };
+            known(b, line, a, out, back)
+        }
+    }
+}
+
+// One record: the step, and its line.
+fn turn(
+    b: Inside,
+    part: &[u8],
+    number: usize,
+    line: &mut [u8],
+    out: &mut [u8],
+    back: &mut [u8],
+) -> Inside
+    requires { ⌜ Known b (now out) (now back) ⌝ }
+    requires { ⌜ 0 < length (now part) ⌝ }
+    requires { ⌜ length (now line) ≡ 27 ⌝ }
+    ensures { λ r. ⌜ Played b (now (out .entry)) (now (back .entry)) (now (part .entry)) number r (now (line .exit)) (now (out .exit)) (now (back .exit)) ⌝ }
+{
+    let letter = part[0];
+    let read = records::read(part);
+    let told = play(b, read, out, back);
+    let report = told.report;
+    let message = told.message;
+    records::write_line(line, number, letter, report, message);
+    let after = told.after;
+    after
+}
+
+// Where a record that begins at `at` ends: the last may be short.
+fn end_of(at: usize, len: usize) -> usize
+    requires { ⌜ at < len ⌝ }
+    ensures { λ r. ⌜ (r ≡ endOf at len) × ((at < r) × (r ≤ len)) ⌝ }
+{
+    if len - at < 21 {
+        len
+    } else {
+        at + 21
+    }
+}
+
+// At most 9,999 records, and no more than there is room for lines.
+fn limit_of(room: usize) -> usize
+    ensures { λ r. ⌜ r ≡ limitOf room ⌝ }
+{
+    let whole = room / 27;
+    if 9999 < whole {
+        9999
+    } else {
+        whole
+    }
+}
+
+// Gives the bytes that were written. The tables are a fresh or a known bench's.
+fn run_on(
+    b: Inside,
+    input: &[u8],
+    output: &mut [u8],
+    out: &mut [u8],
+    back: &mut [u8],
+) -> usize
+    requires { ⌜ Known b (now out) (now back) ⌝ }
+    ensures { λ r. ⌜ RunOn (linesOn b (now (out .entry)) (now (back .entry)) (now (input .entry)) (length (now (output .entry)))) (now (output .entry)) (now (output .exit)) r ⌝ }
+{
+    let limit = limit_of(output.len());
+    let mut at = b;
+    let mut n = 0;
+    while n < limit {
+        let start = n * 21;
+        if input.len() <= start {
+            return n * 27;
+        }
+        let end = end_of(start, input.len());
+        let line = n * 27;
+        at = turn(at, &input[start..end], n + 1, &mut output[line..line + 27], out, back);
+        n += 1;
+    }
+    n * 27
+}

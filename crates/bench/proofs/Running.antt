@@ -6,15 +6,23 @@ use mathlib.Core.List.{List, [], _∷_, _++_, append-nil, append-assoc}
 use native.Mathlib.Omega.{arith}
 use native.Mathlib.Nat.{not-suc-le-zero}
 use lib.Dec.{ltb}
-use lib.ListN.{length, getD, take, drop, length-take, length-drop, length-append, take-append-drop, drop-of-length-le}
+use lib.ListN.{length, getD, take, drop, replicate, length-take, length-drop, length-append, take-append-drop, drop-of-length-le}
 use lib.Seq.{length-take-le, take-all, take-at, drop-at, drop-drop}
 use borrow.Author.Tests.{lt-ltb, le-ltb, ltb-true, ltb-false}
 use Rattle.ground.specs.Choice.{if_then_else_}
 use Rattle.ground.proofs.Tests.{by-test}
+use Rattle.ground.specs.Cell.{isMessage}
+use Rattle.protocol.specs.Supply.{counted}
+use Rattle.protocol.specs.Bench as rules
+use Rattle.protocol.proofs.WellFormed.{fresh-well-formed}
 use Rattle.records.specs.Line.{lineBytes}
+use Rattle.channels.specs.Table.{packets}
+use Rattle.channels.proofs.Channel.{channel-none}
+use Rattle.channels.proofs.Packets.{to-controller-coded, to-console-coded}
+use Rattle.bench.specs.Means.{benchBack}
 use Rattle.channels.proofs.Parts.{part, replaced, part-length}
-use Rattle.bench.specs.Running.{recordsOf, played, lines, limitOf}
-use Rattle.bench.specs.Within.{Known, benchOf, Played, endOf, linesOn, RunOn}
+use Rattle.bench.specs.Running.{recordsOf, played, lines, limitOf, listLines, Ran}
+use Rattle.bench.specs.Within.{Known, insideMeans, benchOf, Played, endOf, linesOn, started}
 use Rattle.bench.specs.declared.Bench.{Bench}
 use Rattle.bench.specs.declared.inside.Inside.{Inside}
 
@@ -142,13 +150,12 @@ module _ (all input before output : List ℕ) (limit n : ℕ) (b : Inside) (out 
       ≡ line ++ lines (n + 1 + 1) (benchOf after) out′ back′ (recordsOf (limit - (n + 1)) (drop ((n + 1) * 21) input)) =
       ap (lines (n + 1) (benchOf b) out back) (come h k)
       ∙ lines-next (n + 1) (benchOf b) out back s (recordsOf (limit - (n + 1)) (drop ((n + 1) * 21) input))
-      ∙ (λ i. sym (p .written) i ++ lines (n + 1 + 1) (sym (p .bench-is) i) (sym (p .out-is) i) (sym (p .back-is) i) (recordsOf (limit - (n + 1)) (drop ((n + 1) * 21) input))) in
-      (
+      ∙ (λ i. sym (p .written) i ++ lines (n + 1 + 1) (sym (p .bench-is) i) (sym (p .out-is) i) (sym (p .back-is) i) (recordsOf (limit - (n + 1)) (drop ((n + 1) * 21) input))) in (
         ap length whole ∙ omega (arith, l₁, l₂, lz, lo, la, l, v .0, h, r),
         ap (drop ((n + 1) * 27)) whole ∙ dropped ∙ rest,
         v .2 ∙ ap (λ (x : List ℕ). a ++ x) more
-        ∙ sym (append-assoc a line (lines (n + 1 + 1) (benchOf after) out′ back′ (recordsOf (limit - (n + 1)) (drop ((n + 1) * 21) input))))
-        ∙ ap (λ (x : List ℕ). x ++ lines (n + 1 + 1) (benchOf after) out′ back′ (recordsOf (limit - (n + 1)) (drop ((n + 1) * 21) input))) (sym taken ∙ ap (take ((n + 1) * 27)) (sym whole)),
+            ∙ sym (append-assoc a line (lines (n + 1 + 1) (benchOf after) out′ back′ (recordsOf (limit - (n + 1)) (drop ((n + 1) * 21) input))))
+            ∙ ap (λ (x : List ℕ). x ++ lines (n + 1 + 1) (benchOf after) out′ back′ (recordsOf (limit - (n + 1)) (drop ((n + 1) * 21) input))) (sym taken ∙ ap (take ((n + 1) * 27)) (sym whole)),
       )
 
   pub along-turn : {end : ℕ} {after : Inside} {line out′ back′ : List ℕ} → Along all input before limit n b output out back → n < limit → limit * 27 ≤ length before → n * 21 < length input
@@ -158,7 +165,7 @@ module _ (all input before output : List ℕ) (limit n : ℕ) (b : Inside) (out 
       along-next v h r k (subst (λ (x : List ℕ). Played b out back x (n + 1) after line out′ back′) (record-is input (n * 21) k e) p) l
 
   -- no record is left
-  over : recordsOf (limit - n) (drop (n * 21) input) ≡ [] → Along all input before limit n b output out back → n ≤ limit → limit * 27 ≤ length before → RunOn all before output (n * 27)
+  over : recordsOf (limit - n) (drop (n * 21) input) ≡ [] → Along all input before limit n b output out back → n ≤ limit → limit * 27 ≤ length before → Ran all before output (n * 27)
   unfolding lines
   over e v h r =
       let la : length (take (n * 27) output) ≡ n * 27 = length-take-le (n * 27) output (omega (arith, v .0, h, r)) in
@@ -169,9 +176,23 @@ module _ (all input before output : List ℕ) (limit n : ℕ) (b : Inside) (out 
         whole = sym (take-append-drop (n * 27) output) ∙ (λ i. sym same i ++ v .1 i) ∙ ap (λ (m : ℕ). all ++ drop m before) number;
       }
 
-  pub over-limit : limit ≤ n → Along all input before limit n b output out back → n ≤ limit → limit * 27 ≤ length before → RunOn all before output (n * 27)
+  pub over-limit : limit ≤ n → Along all input before limit n b output out back → n ≤ limit → limit * 27 ≤ length before → Ran all before output (n * 27)
   unfolding recordsOf
   over-limit q v h r = let f : limit - n ≡ 0 = omega (arith, q) in over (ap (λ (m : ℕ). recordsOf m (drop (n * 21) input)) f) v h r
 
-  pub over-input : length input ≤ n * 21 → Along all input before limit n b output out back → n ≤ limit → limit * 27 ≤ length before → RunOn all before output (n * 27)
+  pub over-input : length input ≤ n * 21 → Along all input before limit n b output out back → n ≤ limit → limit * 27 ≤ length before → Ran all before output (n * 27)
   over-input q v h r = over (ap (recordsOf (limit - n)) (drop-of-length-le input {i = n * 21} q) ∙ records-none (limit - n)) v h r
+
+-- ## From a fresh bench
+
+pub starts-known : {b : Inside} (out back : List ℕ) → b ≡ started → out ≡ replicate 2048 0 → back ≡ replicate 2048 0 → Known b out back
+unfolding insideMeans packets rules.fresh
+starts-known out back e f g =
+    subst (λ (x : Inside). Known x out back) (sym e)
+    (record { well-formed = fresh-well-formed counted isMessage 0 0 refl refl; out-holds = f ∙ sym (channel-none to-controller-coded); back-holds = g ∙ sym (channel-none to-console-coded) })
+
+pub starts-run : (b : Inside) (out back input before after : List ℕ) {n : ℕ} → b ≡ started → out ≡ replicate 2048 0 → back ≡ replicate 2048 0
+    → Ran (linesOn b out back input (length before)) before after n → Ran (listLines (limitOf (length before)) input) before after n
+unfolding linesOn listLines benchBack rules.fresh
+starts-run b out back input before after {n} e f g h =
+    subst (λ (x : List ℕ). Ran x before after n) (λ i. lines 1 (benchOf (e i)) (f i) (g i) (recordsOf (limitOf (length before)) input)) h

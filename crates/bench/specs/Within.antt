@@ -3,11 +3,11 @@ use Prim.Native.Nat.{ℕ, _+_, _-_, _<_, _^_}
 use mathlib.Core.Path.{_≡_}
 use mathlib.Core.Bool.{Bool, true, false, _&&_}
 use mathlib.Core.Option.{none, some}
-use mathlib.Core.List.{List, _++_}
+use mathlib.Core.List.{List}
 use lib.Dec.{leb, ltb}
-use lib.ListN.{length, getD, drop}
+use lib.ListN.{length, getD}
 use Rattle.ground.specs.Choice.{if_then_else_}
-use Rattle.ground.specs.Cell.{isMessage}
+use Rattle.ground.specs.Cell.{isMessage, spaces}
 use Rattle.ground.specs.First.{refusal}
 use Rattle.wire.specs.declared.Direction.{Direction}
 use Rattle.wire.specs.declared.Direction.the-variants as dir
@@ -30,6 +30,8 @@ use Rattle.ends.specs.declared.fields.Controller.{Controller}
 use Rattle.ends.specs.Console as console
 use Rattle.ends.specs.Controller as controller
 use Rattle.ends.specs.declared.Report.{Report}
+use Rattle.ends.specs.declared.console.Mode.the-variants as console-mode
+use Rattle.ends.specs.declared.controller.Mode.the-variants as controller-mode
 use Rattle.ends.specs.declared.console.Act as console-act
 use Rattle.ends.specs.declared.console.Act.the-variants as acts
 use Rattle.ends.specs.declared.controller.Act as controller-act
@@ -213,7 +215,13 @@ endOf start len = if ltb (len - start) 21 then len else start + 21
 unfoldable pub linesOn : Inside → List ℕ → List ℕ → List ℕ → ℕ → List ℕ
 linesOn b out back input room = lines 1 (benchOf b) out back (recordsOf (limitOf room) input)
 
--- the lines stand at the front of the output, and the rest of it is as it was
-pub record RunOn (all before after : List ℕ) (n : ℕ) : Type 0 where
-  pub number : n ≡ length all
-  pub whole : after ≡ all ++ drop (length all) before
+-- a fresh bench with 0 and 0
+abbrev pub started : Inside
+started =
+    record {
+      console = record { used = record { 0 = 0 }; mode = console-mode.Idle; up = true };
+      held = spaces;
+      controller = record { used = record { 0 = 0 }; mode = controller-mode.Idle; up = true };
+      sent = 0;
+      returned = 0;
+    }

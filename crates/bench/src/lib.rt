@@ -2,7 +2,7 @@
 mod asks;
 mod inside;
 mod moves;
-mod run;
+mod runner;
 
 use ends::Report;
 use ends::fields::Console;
@@ -20,6 +20,7 @@ use inside::Told;
 use inside::known;
 use letters::Found;
 use letters::Line;
+pub use runner::run;
 use wire::Direction;
 use wire::I;
 use wire::J;

@@ -1,7 +1,7 @@
 use borrow.Author.Needs.{needs}
 use Rattle.bench.proofs.Playing.{read-lined, turned}
-use Rattle.bench.proofs.run.turn.Statement.{statement}
-use Rattle.bench.proofs.run.turn.Tie as tie
+use Rattle.bench.proofs.runner.turn.Statement.{statement}
+use Rattle.bench.proofs.runner.turn.Tie as tie
 
 pub turn-spec : {M : Type 1} → statement M
 turn-spec =

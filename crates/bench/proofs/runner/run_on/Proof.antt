@@ -1,12 +1,12 @@
--- `bench::run::run_on` meets its contract. The invariant: the lines are those written and those of the records to come.
+-- `bench::runner::run_on` meets its contract. The invariant: the lines are those written and those of the records to come.
 use Prim.Native.Nat.{_≤_, _-_, _*_}
 use mathlib.Core.Path.{_≡_}
 use borrow.Author.Needs.{needs}
 use lib.ListN.{length}
 use Rattle.bench.specs.Within.{Known, linesOn}
 use Rattle.bench.proofs.Running.{Along, along-first, along-turn, over-limit, over-input, record-some, line-long, limit-low, limit-roomy}
-use Rattle.bench.proofs.run.run_on.Statement.{statement}
-use Rattle.bench.proofs.run.run_on.Tie as tie
+use Rattle.bench.proofs.runner.run_on.Statement.{statement}
+use Rattle.bench.proofs.runner.run_on.Tie as tie
 
 abbrev Inv-loop : tie.InvT-loop
 Inv-loop input output₀ out₀ back₀ limit at₀ n₀ output out back at n =

@@ -4,13 +4,17 @@ use crate::inside::Inside;
 use crate::inside::Told;
 use crate::inside::known;
 use crate::inside::refused;
+use ends::console;
+use ends::controller;
 use letters::Found;
 use records::Record;
+use wire::I;
+use wire::J;
 ghost use Prim.Native.Nat.{_<_, _≤_};
 ghost use mathlib.Core.Path.{_≡_};
 ghost use lib.ListN.{length};
-ghost use Rattle.bench.specs.Running.{limitOf};
-ghost use Rattle.bench.specs.Within.{Known, within, FoundLined, recordStep, Played, endOf, linesOn, RunOn};
+ghost use Rattle.bench.specs.Running.{limitOf, listLines, Ran};
+ghost use Rattle.bench.specs.Within.{Known, within, FoundLined, recordStep, Played, endOf, linesOn, started};
 
 // A record that is not well formed is 1.
 fn play(b: Inside, r: Record, out: &mut [u8], back: &mut [u8]) -> Told
@@ -63,11 +67,7 @@ fn end_of(at: usize, len: usize) -> usize
     requires { ⌜ at < len ⌝ }
     ensures { λ r. ⌜ (r ≡ endOf at len) × ((at < r) × (r ≤ len)) ⌝ }
 {
-    if len - at < 21 {
-        len
-    } else {
-        at + 21
-    }
+    if len - at < 21 { len } else { at + 21 }
 }
 
 // At most 9,999 records, and no more than there is room for lines.
@@ -75,23 +75,13 @@ fn limit_of(room: usize) -> usize
     ensures { λ r. ⌜ r ≡ limitOf room ⌝ }
 {
     let whole = room / 27;
-    if 9999 < whole {
-        9999
-    } else {
-        whole
-    }
+    if 9999 < whole { 9999 } else { whole }
 }
 
 // Gives the bytes that were written. The tables are a fresh or a known bench's.
-fn run_on(
-    b: Inside,
-    input: &[u8],
-    output: &mut [u8],
-    out: &mut [u8],
-    back: &mut [u8],
-) -> usize
+fn run_on(b: Inside, input: &[u8], output: &mut [u8], out: &mut [u8], back: &mut [u8]) -> usize
     requires { ⌜ Known b (now out) (now back) ⌝ }
-    ensures { λ r. ⌜ RunOn (linesOn b (now (out .entry)) (now (back .entry)) (now (input .entry)) (length (now (output .entry)))) (now (output .entry)) (now (output .exit)) r ⌝ }
+    ensures { λ r. ⌜ Ran (linesOn b (now (out .entry)) (now (back .entry)) (now (input .entry)) (length (now (output .entry)))) (now (output .entry)) (now (output .exit)) r ⌝ }
 {
     let limit = limit_of(output.len());
     let mut at = b;
@@ -103,8 +93,47 @@ fn run_on(
         }
         let end = end_of(start, input.len());
         let line = n * 27;
-        at = turn(at, &input[start..end], n + 1, &mut output[line..line + 27], out, back);
+        at = turn(
+            at,
+            &input[start..end],
+            n + 1,
+            &mut output[line..line + 27],
+            out,
+            back,
+        );
         n += 1;
     }
     n * 27
+}
+
+// A fresh bench with 0 and 0.
+fn starts() -> Inside
+    ensures { λ r. ⌜ r ≡ started ⌝ }
+{
+    Inside {
+        console: console::End {
+            used: J(0),
+            mode: console::Mode::Idle,
+            up: true,
+        },
+        held: [0x20; 16],
+        controller: controller::End {
+            used: I(0),
+            mode: controller::Mode::Idle,
+            up: true,
+        },
+        sent: 0,
+        returned: 0,
+    }
+}
+
+// Plays a list of records of 21 bytes on a fresh bench and writes a line of 27 bytes for each, as far as there is room. Gives the bytes
+// that were written.
+pub fn run(input: &[u8], output: &mut [u8]) -> usize
+    ensures { λ r. ⌜ Ran (listLines (limitOf (length (now (output .entry)))) (now (input .entry))) (now (output .entry)) (now (output .exit)) r ⌝ }
+{
+    let mut out = [0; 2048];
+    let mut back = [0; 2048];
+    let b = starts();
+    run_on(b, input, output, &mut out, &mut back)
 }

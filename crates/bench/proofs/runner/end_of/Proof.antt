@@ -1,7 +1,7 @@
 use borrow.Author.Needs.{needs}
 use Rattle.bench.proofs.Running.{record-ends}
-use Rattle.bench.proofs.run.end_of.Statement.{statement}
-use Rattle.bench.proofs.run.end_of.Tie as tie
+use Rattle.bench.proofs.runner.end_of.Statement.{statement}
+use Rattle.bench.proofs.runner.end_of.Tie as tie
 
 pub end-of-spec : {M : Type 1} → statement M
 end-of-spec =

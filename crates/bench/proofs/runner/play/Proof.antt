@@ -1,7 +1,7 @@
 use borrow.Author.Needs.{needs}
 use Rattle.bench.proofs.Playing.{play-refused, play-step, found-lined}
-use Rattle.bench.proofs.run.play.Statement.{statement}
-use Rattle.bench.proofs.run.play.Tie as tie
+use Rattle.bench.proofs.runner.play.Statement.{statement}
+use Rattle.bench.proofs.runner.play.Tie as tie
 
 pub play-spec : {M : Type 1} → statement M
 play-spec =

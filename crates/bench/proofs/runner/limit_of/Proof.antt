@@ -1,6 +1,6 @@
 use Rattle.bench.proofs.Running.{limits}
-use Rattle.bench.proofs.run.limit_of.Statement.{statement}
-use Rattle.bench.proofs.run.limit_of.Tie as tie
+use Rattle.bench.proofs.runner.limit_of.Statement.{statement}
+use Rattle.bench.proofs.runner.limit_of.Tie as tie
 
 pub limit-of-spec : {M : Type 1} → statement M
 limit-of-spec =

@@ -196,3 +196,14 @@ pub starts-run : (b : Inside) (out back input before after : List ℕ) {n : ℕ}
 unfolding linesOn listLines benchBack rules.fresh
 starts-run b out back input before after {n} e f g h =
     subst (λ (x : List ℕ). Ran x before after n) (λ i. lines 1 (benchOf (e i)) (f i) (g i) (recordsOf (limitOf (length before)) input)) h
+
+-- what is given is within the output
+pub ran-fits : {all before after : List ℕ} {n : ℕ} → Ran all before after n → n ≤ length after
+ran-fits {all} {before} {after} h =
+    let a = ap length (h .whole) in
+    let b = length-append all (drop (length all) before) in
+    let c = h .number in
+    omega (arith, a, b, c)
+
+pub ran-prefix : {all before after : List ℕ} {n : ℕ} → Ran all before after n → n ≡ length (take n after)
+ran-prefix {all} {before} {after} {n} h = sym (length-take-le n after (ran-fits h))

@@ -8,6 +8,7 @@ pub mod ControllerStages
 pub mod Handing
 pub mod Knowing
 pub mod Losing
+pub mod Orders
 pub mod Playing
 pub mod Refusing
 pub mod Rooms

@@ -27,7 +27,7 @@ use Rattle.protocol.proofs.Kept.{run-keeps, fresh-kept}
 
 module _ {M : Type 0} where
   -- the message without the number of its put
-  abbrev bare : Labelled M → M
+  abbrev pub bare : Labelled M → M
   bare m = m .cells
 
   acted-shown : (n : ℕ) (l : Letter) (c : M) → Option·map unnumbered (acted n l c) ≡ acted 0 l c
@@ -45,7 +45,7 @@ module _ {M : Type 0} where
   acted-shown n L-lose c = refl
   acted-shown n M-lose c = refl
 
-  row-shown : (n held : ℕ) (a : Action M) (r : Report (Labelled M)) → Option·map unnumbered (row n held a r) ≡ shown a (in-report bare r)
+  pub row-shown : (n held : ℕ) (a : Action M) (r : Report (Labelled M)) → Option·map unnumbered (row n held a r) ≡ shown a (in-report bare r)
   row-shown n held a nothing = acted-shown n (a .letter) (a .message)
   row-shown n held a (delivered m) = refl
   row-shown n held a answered-ok = refl
@@ -54,7 +54,7 @@ module _ {M : Type 0} where
 
 module _ {S M : Type 0} (U : Supply S) (good : M → Bool) where
   -- one action: the real step is the labelled one with the numbers taken off
-  bare-step : (past : Log M) (b : Bench S (Labelled M)) (a : Action M)
+  pub bare-step : (past : Log M) (b : Bench S (Labelled M)) (a : Action M)
       → step U good (in-bench bare b) a ≡ in-outcome bare (labelled-step U good past b a)
   bare-step past b a = nat-step bare U (λ m. good (m .cells)) good (λ m. refl) b (in-action (labelled (suc (put-count past))) a)
 

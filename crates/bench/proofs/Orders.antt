@@ -1,0 +1,176 @@
+-- Demand 3 of the bench's own step, from the rules' theorem: the step's outcomes are those of the rules' run.
+use Prim.Native.Nat.{ℕ, suc, _<_, _^_}
+use mathlib.Core.Path.{_≡_, refl, sym, ap, ap₂, subst, _∙_}
+use mathlib.Core.Bool.{true}
+use mathlib.Core.Option.{Option, none, some, Option·map}
+use mathlib.Core.List.{List, [], _∷_, map}
+use native.Mathlib.Omega.{arith}
+use lib.ListN.{length}
+use borrow.Author.Tests.{eq-eqb, le-leb}
+use lib.Dec.{eqb}
+use Rattle.ground.specs.Cell.{isMessage}
+use Rattle.ground.specs.Choice.{if_then_else_}
+use Rattle.wire.specs.declared.I.{I}
+use Rattle.wire.specs.declared.J.{J}
+use Rattle.protocol.specs.Supply.{counted, largest}
+use Rattle.protocol.specs.Letters.{Letter, letter}
+use Rattle.protocol.specs.Ends as ends
+use Rattle.protocol.specs.Bench as rules
+use Rattle.protocol.specs.Relabel.{in-report, in-bench, in-outcome}
+use Rattle.protocol.specs.Log.{Log, Event, put-count, Right}
+use Rattle.protocol.specs.Plain.{Plain}
+use Rattle.protocol.proofs.Plain.{right-plain}
+use Rattle.protocol.specs.Judge.{Labelled}
+use Rattle.protocol.specs.Demand3.{row, write, labelled-step, row-of, written, unnumbered, shown, held-label}
+use Rattle.protocol.specs.Demand3 as protocol
+use Rattle.protocol.specs.WellFormed.{Well-formed}
+use Rattle.protocol.proofs.Demand3.{bare, row-shown, bare-step, demand3-messages}
+use Rattle.protocol.proofs.Supply.{counted-lawful}
+use Rattle.protocol.proofs.WellFormed.{step-well-formed, fresh-well-formed}
+use Rattle.ends.specs.Means.{reportBack}
+use Rattle.ends.specs.InRules.{delivered}
+use Rattle.channels.specs.Packets.{toControllerBytes, toConsoleBytes}
+use Rattle.channels.specs.Table.{channel}
+use Rattle.bench.specs.Means.{benchOk, benchMeans, benchBack}
+use Rattle.bench.specs.Promise.{Result, benchRefused, benchTold, stepOf, benchStep, benchFresh, freshRules}
+use Rattle.bench.specs.Orders.{outcomes, freshOutcomes, shownBy, allShown, OrdersRight}
+use Rattle.bench.specs.declared.Action.{Action}
+use Rattle.bench.specs.declared.Outcome.{Outcome}
+use Rattle.bench.proofs.Standing.{stands-ok, stands-for}
+
+-- ## One step
+
+abbrev out : rules.Bench ℕ (List ℕ) → List ℕ
+out b = channel toControllerBytes (b .toController)
+
+abbrev back : rules.Bench ℕ (List ℕ) → List ℕ
+back b = channel toConsoleBytes (b .toConsole)
+
+abbrev asRules : Letter → Action → rules.Action (List ℕ)
+asRules l a = rules.action l (a .place) (a .copies) (a .message)
+
+-- where the rules' bench stands, the promise's step is the rules' step
+pub step-of : (b : rules.Bench ℕ (List ℕ)) → Well-formed counted isMessage b → (a : Action) (l : Letter) → letter (a .letter) ≡ some l
+    → benchStep (benchBack b) a (out b) (back b) ≡ benchTold (rules.step counted isMessage b (asRules l a))
+unfolding benchStep if_then_else_
+step-of b w a l e = rw (e, stands-ok b w, stands-for b w)
+
+pub step-none : (b : rules.Bench ℕ (List ℕ)) (a : Action) → letter (a .letter) ≡ none → benchStep (benchBack b) a (out b) (back b) ≡ benchRefused 1 (benchBack b) (out b) (back b)
+unfolding benchStep
+step-none b a e = rw e
+
+-- well-formedness is kept: what a step leaves passes the check again
+pub step-keeps : (b : rules.Bench ℕ (List ℕ)) → Well-formed counted isMessage b → (a : Action) (l : Letter) → letter (a .letter) ≡ some l
+    → let r = benchStep (benchBack b) a (out b) (back b) in benchOk (r .outcome .bench) (r .out) (r .back) ≡ true
+unfolding benchTold
+step-keeps b w a l e =
+    let o = rules.step counted isMessage b (asRules l a) in
+    ap (λ (r : Result). benchOk (r .outcome .bench) (r .out) (r .back)) (step-of b w a l e) ∙ stands-ok (o .after) (step-well-formed counted counted-lawful isMessage b (asRules l a) w)
+
+-- what the outcome shows is what the rules' report shows
+same-shown : (a : Action) (l : Letter) → letter (a .letter) ≡ some l → (r : ends.Report (List ℕ)) → shown (asRules l a) r ≡ shownBy a (reportBack r) (delivered r)
+same-shown a l e ends.nothing = rw e
+same-shown a l e (ends.delivered m) = refl
+same-shown a l e ends.answered-ok = refl
+same-shown a l e ends.answered-lost = refl
+same-shown a l e (ends.refused n) = refl
+
+-- ## The log: a letter that is no action leaves no row
+
+abbrev Labels : Type 0
+Labels = rules.Bench ℕ (Labelled (List ℕ))
+
+abbrev actionsFrom : Option Letter → Action → List (rules.Action (List ℕ)) → List (rules.Action (List ℕ))
+actionsFrom none a l = l
+actionsFrom (some x) a l = asRules x a ∷ l
+
+-- the actions of the list whose letter is one
+unfoldable actionsIn : List Action → List (rules.Action (List ℕ))
+actionsIn [] = []
+actionsIn (a ∷ l) = actionsFrom (letter (a .letter)) a (actionsIn l)
+
+abbrev Rows : Type 0
+Rows = List (Option (Event (List ℕ)))
+
+-- the row of one action, and the rows after it
+abbrev rowsFrom : Option Letter → Action → Log (List ℕ) → Labels → (Log (List ℕ) → Labels → Rows) → Rows
+rowsFrom none a past b more = none ∷ more past b
+rowsFrom (some x) a past b more =
+    row-of counted isMessage past b (asRules x a)
+    ∷ more (write (row-of counted isMessage past b (asRules x a)) past) (labelled-step counted isMessage past b (asRules x a) .after)
+
+unfoldable rowsOf : Log (List ℕ) → Labels → List Action → Rows
+rowsOf past b [] = []
+rowsOf past b (a ∷ l) = rowsFrom (letter (a .letter)) a past b (λ p c. rowsOf p c l)
+
+-- the log is that of the rules' run
+same-log : (past : Log (List ℕ)) (b : Labels) (l : List Action) → written (rowsOf past b l) past ≡ written (protocol.rows counted isMessage past b (actionsIn l)) past
+unfolding rowsOf actionsIn written protocol.rows
+same-log past b [] = refl
+same-log past b (a ∷ l) = by (letter (a .letter)) (λ p c. same-log p c l)
+  where
+    by : (o : Option Letter) → ((p : Log (List ℕ)) (c : Labels) → written (rowsOf p c l) p ≡ written (protocol.rows counted isMessage p c (actionsIn l)) p)
+        → written (rowsFrom o a past b (λ p c. rowsOf p c l)) past ≡ written (protocol.rows counted isMessage past b (actionsFrom o a (actionsIn l))) past
+    by none more = more past b
+    by (some x) more = more (write (row-of counted isMessage past b (asRules x a)) past) (labelled-step counted isMessage past b (asRules x a) .after)
+
+-- without the numbers its rows are what the step's outcomes show
+abbrev Shows : Log (List ℕ) → Labels → List Action → Type 0
+Shows past b l =
+    let c = in-bench bare b in
+    map (Option·map unnumbered) (rowsOf past b l) ≡ allShown l (outcomes (benchBack c) (out c) (back c) l)
+
+-- what follows a result
+abbrev after : Action → List Action → Result → Rows
+after a l r = shownBy a (r .outcome .report) (r .outcome .message) ∷ allShown l (outcomes (r .outcome .bench) (r .out) (r .back) l)
+
+one-shows : (past : Log (List ℕ)) (b : Labels) (a : Action) (l : List Action) → Well-formed counted isMessage (in-bench bare b) → (o : Option Letter) → letter (a .letter) ≡ o
+    → ((p : Log (List ℕ)) (d : Labels) → Well-formed counted isMessage (in-bench bare d) → Shows p d l)
+    → let c = in-bench bare b in map (Option·map unnumbered) (rowsFrom o a past b (λ p d. rowsOf p d l)) ≡ after a l (benchStep (benchBack c) a (out c) (back c))
+unfolding benchRefused benchTold
+one-shows past b a l w none e more =
+    ap (λ (x : Rows). none ∷ x) (more past b w) ∙ ap (after a l) (sym (step-none (in-bench bare b) a e))
+one-shows past b a l w (some x) e more =
+    let c = in-bench bare b in
+    let act = asRules x a in
+    let labelled = labelled-step counted isMessage past b act in
+    let o = rules.step counted isMessage c act in
+    let same : o ≡ in-outcome bare labelled = bare-step counted isMessage past b act in
+    let ok : Well-formed counted isMessage (in-bench bare (labelled .after)) = subst (λ (z : rules.Outcome ℕ (List ℕ)). Well-formed counted isMessage (z .after)) same (step-well-formed counted counted-lawful isMessage c act w) in
+    ap₂ (λ (y : Option (Event (List ℕ))) (z : Rows). y ∷ z)
+    (row-shown (suc (put-count past)) (held-label (b .console .mode)) act (labelled .report) ∙ same-shown a x e (in-report bare (labelled .report)))
+    (more (write (row-of counted isMessage past b act) past) (labelled .after) ok)
+    ∙ ap (λ (z : rules.Outcome ℕ (List ℕ)). after a l (benchTold z)) (sym same)
+    ∙ ap (after a l) (sym (step-of c w a x e))
+
+same-shows : (past : Log (List ℕ)) (b : Labels) (l : List Action) → Well-formed counted isMessage (in-bench bare b) → Shows past b l
+unfolding rowsOf outcomes allShown
+same-shows past b [] w = refl
+same-shows past b (a ∷ l) w = one-shows past b a l w (letter (a .letter)) refl (λ p c v. same-shows p c l v)
+
+-- ## From a fresh bench
+
+module _ (j : J) (i : I) (out₀ back₀ : List ℕ) (p : j .0 < 2 ^ 32) (q : i .0 < 2 ^ 32) (m : length out₀ ≡ 2048) (n : length back₀ ≡ 2048) (l : List Action) where
+  abbrev b : Labels
+  b = rules.fresh (j .0) (i .0)
+
+  fresh-is : benchFresh j i out₀ back₀ ≡ benchTold (record { report = ends.nothing; after = freshRules j i })
+  unfolding benchFresh if_then_else_
+  fresh-is = rw (eq-eqb (length out₀) 2048 m, eq-eqb (length back₀) 2048 n)
+
+  fresh-ok : Well-formed counted isMessage (freshRules j i)
+  fresh-ok = fresh-well-formed counted isMessage (j .0) (i .0) (le-leb (j .0) largest (omega (arith, p))) (le-leb (i .0) largest (omega (arith, q)))
+
+  -- the step's deliveries and answers are as demand 3 says
+  pub orders-right : OrdersRight j i out₀ back₀ l
+  unfolding freshOutcomes benchTold rules.fresh
+  orders-right =
+      record {
+        rows = rowsOf [] b l;
+        right = subst Right (sym (same-log [] b l)) (demand3-messages (j .0) (i .0) (actionsIn l) .right);
+        own = same-shows [] b l fresh-ok ∙ ap (λ (r : Result). allShown l (outcomes (r .outcome .bench) (r .out) (r .back) l)) (sym fresh-is);
+      }
+
+  -- in plain words
+  pub orders-plain : Plain (written (orders-right .rows) [])
+  orders-plain = right-plain (written (orders-right .rows) []) (orders-right .right)

@@ -1,0 +1,5 @@
+pub mod Keeping
+pub mod Numbering
+pub mod Reading
+pub mod Stepping
+pub mod Writing

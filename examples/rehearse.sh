@@ -31,4 +31,4 @@ cd "$place"
 status=0
 "$bin/conduct" "$bin" "$cuts" "$seed" $((30 + cuts / 20)) || status=$?
 [ "$status" -ne 2 ] || exit 2
-"$bin/judge" "$cuts" "$cuts" $((cuts / 4)) $((cuts / 40))
+"$bin/judge" "$cuts" $((cuts / 2)) $((cuts / 4)) $((cuts / 40))

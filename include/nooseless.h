@@ -25,7 +25,8 @@ extern "C" {
 #define NOOSELESS_CONSOLE_STATE 30
 #define NOOSELESS_CONTROLLER_STATE 17
 
-/* ---- Refusals. The first that applies, in this order: 1, 2, 12, 13, 14, 15, 11, 10, 4 or 5, 6, 8, 3, 7, 9 ---- */
+/* ---- Refusals. The first that applies, in this order: 1, 2, 12, 13, 14, 15, 11, 10, 4 or 5, 6, 8, 3, 7, 9. Each entry below names
+ * those that it gives, in their order, without NOOSELESS_. 3, 9 and 10 speak of places and copies. ---- */
 
 enum nooseless_refusal {
     NOOSELESS_NO_ACTION = 1,      /* a letter that is no action here */
@@ -58,18 +59,20 @@ enum nooseless_kind {
 
 enum nooseless_end { NOOSELESS_CONSOLE = 1, NOOSELESS_CONTROLLER = 2 };
 
-/* Reads a packet of 32 bytes. No second number is 0; no message is 16 zero bytes. Refusals: 12, 13, 14, 15. */
+/* Reads a packet of 32 bytes. No second number is 0; no message is 16 zero bytes. Refusals:
+ * WRONG_LENGTH, WRONG_MARK, WRONG_VERSION, WRONG_FIELD. */
 uint8_t nooseless_read_packet(const uint8_t *packet, size_t packet_len, uint8_t *kind, uint32_t *first, uint32_t *second,
                               uint8_t message[NOOSELESS_MESSAGE]);
 
-/* Writes a packet to 32 bytes; kind, numbers and message as its line above says. Refusals: 12, 15. */
+/* Writes a packet to 32 bytes; kind, numbers and message as its line above says. Refusals: WRONG_LENGTH, WRONG_FIELD. */
 uint8_t nooseless_write_packet(uint8_t *out, size_t out_len, uint8_t kind, uint32_t first, uint32_t second,
                                const uint8_t message[NOOSELESS_MESSAGE]);
 
-/* Reads a number record of 12 bytes: whose it is, and its last used. Refusals: 12, 13, 14, 15. */
+/* Reads a number record of 12 bytes: whose it is, and its last used. Refusals: WRONG_LENGTH, WRONG_MARK, WRONG_VERSION,
+ * WRONG_FIELD. */
 uint8_t nooseless_read_record(const uint8_t *record, size_t record_len, uint8_t *end, uint32_t *last_used);
 
-/* Writes a number record to 12 bytes. Refusals: 12, 15. */
+/* Writes a number record to 12 bytes. Refusals: WRONG_LENGTH, WRONG_FIELD. */
 uint8_t nooseless_write_record(uint8_t *out, size_t out_len, uint8_t end, uint32_t last_used);
 
 /* ---- An end run alone ----
@@ -87,16 +90,16 @@ uint8_t nooseless_write_record(uint8_t *out, size_t out_len, uint8_t end, uint32
  * .._downed, then V or Y.
  */
 
-/* Up and idle, with any last used; 0 for a box that never ran. Refusals: 2. */
+/* Up and idle, with any last used; 0 for a box that never ran. Refusals: ILL_FORMED. */
 uint8_t nooseless_console_fresh(uint8_t *state, size_t state_len, uint32_t last_used);
 uint8_t nooseless_controller_fresh(uint8_t *state, size_t state_len, uint32_t last_used);
 
-/* After power loss: down, with the last used of the end's own number record. Refusals: 2, 12, 13, 14, 15 (also a record of the other
- * end). */
+/* After power loss: down, with the last used of the end's own number record. Refusals: ILL_FORMED, WRONG_LENGTH, WRONG_MARK,
+ * WRONG_VERSION, WRONG_FIELD (also for a record of the other end). */
 uint8_t nooseless_console_downed(uint8_t *state, size_t state_len, const uint8_t *record, size_t record_len);
 uint8_t nooseless_controller_downed(uint8_t *state, size_t state_len, const uint8_t *record, size_t record_len);
 
-/* Writes the state's number record to 12 bytes. Refusals: 2, 12. */
+/* Writes the state's number record to 12 bytes. Refusals: ILL_FORMED, WRONG_LENGTH. */
 uint8_t nooseless_console_record(const uint8_t *state, size_t state_len, uint8_t *out, size_t out_len);
 uint8_t nooseless_controller_record(const uint8_t *state, size_t state_len, uint8_t *out, size_t out_len);
 
@@ -113,14 +116,16 @@ enum nooseless_told {
 
 /*
  * The console's P Q D S C V. `message` is looked at by P alone, `packet` by S alone; Q D S are lent the reply buffer of 32 bytes,
- * whose length is looked at even with nothing to send. Refusals: 1, 2, 12, 13, 14, 15, 11, 4, 5, 6, 8.
+ * whose length is looked at even with nothing to send. Refusals: NO_ACTION, ILL_FORMED, WRONG_LENGTH, WRONG_MARK, WRONG_VERSION,
+ * WRONG_FIELD, NO_CELL, IS_DOWN, IS_UP, OTHER_MODE, SPENT.
  */
 uint8_t nooseless_console_step(uint8_t *state, size_t state_len, uint8_t letter, const uint8_t message[NOOSELESS_MESSAGE],
                                const uint8_t *packet, size_t packet_len, uint8_t *reply, size_t reply_len);
 
 /*
  * The controller's O K R X Y. `packet` is looked at by R alone; O K R are lent the reply buffer of 32 bytes. `delivered` is written
- * with NOOSELESS_DELIVERED and else untouched. Refusals: 1, 2, 12, 13, 14, 15, 4, 5, 6, 7.
+ * with NOOSELESS_DELIVERED and else untouched. Refusals: NO_ACTION, ILL_FORMED, WRONG_LENGTH, WRONG_MARK, WRONG_VERSION,
+ * WRONG_FIELD, IS_DOWN, IS_UP, OTHER_MODE, NEVER_GIVEN.
  */
 uint8_t nooseless_controller_step(uint8_t *state, size_t state_len, uint8_t letter, const uint8_t *packet, size_t packet_len,
                                   uint8_t *reply, size_t reply_len, uint8_t delivered[NOOSELESS_MESSAGE]);

@@ -59,7 +59,7 @@ enum nooseless_kind {
 
 enum nooseless_end { NOOSELESS_CONSOLE = 1, NOOSELESS_CONTROLLER = 2 };
 
-/* Reads a packet of 32 bytes. No second number is 0; no message is 16 zero bytes. Refusals:
+/* Reads a packet of 32 bytes. A second number that is not there is 0, a message that is not there 16 zero bytes. Refusals:
  * WRONG_LENGTH, WRONG_MARK, WRONG_VERSION, WRONG_FIELD. */
 uint8_t nooseless_read_packet(const uint8_t *packet, size_t packet_len, uint8_t *kind, uint32_t *first, uint32_t *second,
                               uint8_t message[NOOSELESS_MESSAGE]);

@@ -18,6 +18,7 @@ use Rattle.ends.proofs.Telling.{unchanged}
 use Rattle.ends.specs.declared.console.End.{End}
 use Rattle.ends.specs.declared.console.Act.{Act}
 use Rattle.ends.specs.declared.console.Act.the-variants.{Put, SendNeedI, SendData, Take, GoDown, ComeBack}
+use Rattle.ends.specs.declared.Report.{Report}
 use Rattle.ends.specs.declared.Report.the-variants as report
 use Rattle.ends.specs.declared.fields.Console.{Console}
 use Rattle.ends.specs.declared.fields.ConsoleRead.{ConsoleRead}
@@ -101,3 +102,12 @@ module _ {asked : Asked} {read : ConsoleRead} (c : Console) (l : ℕ) (m packet 
 
 pub read-as : {read : ConsoleRead} {e : End} (c : Console) → read ≡ consoleRead c → read ≡ Is e → consoleRead c ≡ Is e
 read-as c f g = sym f ∙ g
+
+-- whatever is asked of a console that is not well formed is refused
+pub ill-refused : (P : Report → Type 0) → ((n : ℕ) → P (report.Refused n)) → (c : Console) → consoleOk c ≡ false → (l : ℕ) (m packet reply : List ℕ) → P (consoleAlone c l m packet reply .outcome .report)
+unfolding consoleAlone if_then_else_
+ill-refused P refuses c f l m packet reply = by-asked (consoleAsked (foundOf (letter l)) (packetRead packet .head) (length reply))
+  where
+    by-asked : (a : Asked) → P (consoleDoes c a m reply .outcome .report)
+    by-asked (asked-is.Refused n) = refuses _
+    by-asked (asked-is.Is a) = rw f (refuses 2)

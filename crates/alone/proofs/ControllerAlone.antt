@@ -19,6 +19,7 @@ use Rattle.ends.proofs.ControllerFields.{was-read, was-read-so}
 use Rattle.ends.proofs.Telling.{controller-unchanged}
 use Rattle.ends.specs.declared.controller.End.{End}
 use Rattle.ends.specs.declared.controller.Act.{Act}
+use Rattle.ends.specs.declared.Report.{Report}
 use Rattle.ends.specs.declared.Report.the-variants as report
 use Rattle.ends.specs.declared.fields.Controller.{Controller}
 use Rattle.ends.specs.declared.fields.ControllerRead.{ControllerRead}
@@ -96,3 +97,13 @@ module _ {request : Request} {read : ControllerRead} (c : Controller) (l : ℕ) 
 
 pub read-as : {read : ControllerRead} {e : End} (c : Controller) → read ≡ controllerRead c → read ≡ Is e → controllerRead c ≡ Is e
 read-as c f g = sym f ∙ g
+
+-- whatever is asked of a controller that is not well formed is refused
+pub ill-refused : (P : Report → Type 0) → ((n : ℕ) → P (report.Refused n)) → (c : Controller) → controllerOk c ≡ false → (l : ℕ) (packet reply : List ℕ) → P (controllerAlone c l packet reply .outcome .report)
+unfolding controllerAlone if_then_else_
+ill-refused P refuses c f l packet reply =
+    let r = controllerAsked (foundOf (letter l)) (packetRead packet) (length reply) in by-asked (r .asked) (r .message)
+  where
+    by-asked : (a : Asked) (m : List ℕ) → P (controllerDoes c a m reply .outcome .report)
+    by-asked (asked-is.Refused n) m = refuses _
+    by-asked (asked-is.Is a) m = rw f (refuses 2)

@@ -12,6 +12,18 @@ use Rattle.wire.proofs.records.read_record.Kinds as read-record-kinds
 use Rattle.wire.proofs.records.read_record.Reads as read-record
 use Rattle.wire.proofs.records.write_record.Kinds as write-record-kinds
 use Rattle.wire.proofs.records.write_record.Reads as write-record
+use Rattle.wire.proofs.frame.big_endian.Kinds as big-endian-kinds
+use Rattle.wire.proofs.frame.big_endian.Reads as big-endian
+use Rattle.wire.proofs.packets.head_of.Kinds as head-of-kinds
+use Rattle.wire.proofs.packets.head_of.Reads as head-of
+use Rattle.wire.proofs.records.end_of.Kinds as end-of-kinds
+use Rattle.wire.proofs.records.end_of.Reads as end-of
+use Rattle.wire.proofs.records.number_of.Kinds as number-of-kinds
+use Rattle.wire.proofs.records.number_of.Reads as number-of
+use Rattle.wire.proofs.records.last_used_of.Kinds as last-used-of-kinds
+use Rattle.wire.proofs.records.last_used_of.Reads as last-used-of
+use Rattle.wire.proofs.packets.fields_of.Kinds as fields-of-kinds
+use Rattle.wire.proofs.packets.fields_of.Reads as fields-of
 
 pub direction-of-determined : Determined direction-of-kinds.ps direction-of-kinds.r direction-of.Post
 direction-of-determined κs a x y s t p q = p ∙ sym q
@@ -27,3 +39,21 @@ read-record-determined κs a x y s t p q = p ∙ sym q
 
 pub write-record-determined : DeterminedWith write-record-kinds.ps write-record-kinds.r write-record.Post (λ κs s. now (s .0))
 write-record-determined κs a x y s t p q = (p .0 ∙ sym (q .0), p .1 ∙ sym (q .1))
+
+pub big-endian-determined : Determined big-endian-kinds.ps big-endian-kinds.r big-endian.Post
+big-endian-determined κs a x y s t p q = p ∙ sym q
+
+pub head-of-determined : Determined head-of-kinds.ps head-of-kinds.r head-of.Post
+head-of-determined κs a x y s t p q = p ∙ sym q
+
+pub end-of-determined : Determined end-of-kinds.ps end-of-kinds.r end-of.Post
+end-of-determined κs a x y s t p q = p ∙ sym q
+
+pub number-of-determined : Determined number-of-kinds.ps number-of-kinds.r number-of.Post
+number-of-determined κs a x y s t p q = p ∙ sym q
+
+pub last-used-of-determined : Determined last-used-of-kinds.ps last-used-of-kinds.r last-used-of.Post
+last-used-of-determined κs a x y s t p q = p ∙ sym q
+
+pub fields-of-determined : Determined fields-of-kinds.ps fields-of-kinds.r fields-of.Post
+fields-of-determined κs a x y s t p q = λ i. record { kind = (p .0 ∙ sym (q .0)) i; first = (p .1 ∙ sym (q .1)) i; second = (p .2 ∙ sym (q .2)) i }

@@ -21,7 +21,7 @@ pub(crate) fn number_at(s: &[u8], at: usize) -> u32
     wide(s[at]) * 0x1000000 + wide(s[at + 1]) * 0x10000 + wide(s[at + 2]) * 0x100 + wide(s[at + 3])
 }
 
-pub(crate) fn big_endian(n: u32) -> [u8; 4]
+pub fn big_endian(n: u32) -> [u8; 4]
     ensures { λ r. ⌜ r ≡ bytesOf 4 n ⌝ }
 {
     [

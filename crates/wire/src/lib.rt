@@ -3,9 +3,16 @@ mod frame;
 mod packets;
 mod records;
 
+pub use frame::big_endian;
+pub use packets::Fields;
 pub use packets::direction_of;
+pub use packets::fields_of;
+pub use packets::head_of;
 pub use packets::read_packet;
 pub use packets::write_packet;
+pub use records::end_of;
+pub use records::last_used_of;
+pub use records::number_of;
 pub use records::read_record;
 pub use records::write_record;
 

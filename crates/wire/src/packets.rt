@@ -31,13 +31,13 @@ pub fn direction_of(head: Head) -> Direction
 }
 
 // What bytes 5 and 8 to 15 say of a head.
-struct Fields {
-    kind: u8,
-    first: u32,
-    second: u32,
+pub struct Fields {
+    pub kind: u8,
+    pub first: u32,
+    pub second: u32,
 }
 
-fn fields_of(h: Head) -> Fields
+pub fn fields_of(h: Head) -> Fields
     ensures { λ r. ⌜ (r .kind ≡ kindOf h) × (r .first ≡ firstOf h) × (r .second ≡ secondOf h) ⌝ }
 {
     match h {
@@ -88,7 +88,7 @@ fn message_fits(h: Head, m: &[u8]) -> bool
 }
 
 // The head of a kind with these numbers.
-fn head_of(k: u8, a: u32, b: u32) -> ReadHead
+pub fn head_of(k: u8, a: u32, b: u32) -> ReadHead
     ensures { λ r. ⌜ r ≡ headOf k a b ⌝ }
 {
     if a == 0 {

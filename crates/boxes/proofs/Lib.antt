@@ -1,0 +1,10 @@
+pub mod ConsoleTrips
+pub mod ControllerTrips
+pub mod Determined
+pub mod Flags
+pub mod Keeping
+pub mod Numbering
+pub mod Reading
+pub mod Stepping
+pub mod Writing
+pub mod Wrong

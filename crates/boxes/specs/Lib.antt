@@ -1,0 +1,5 @@
+pub mod Console
+pub mod Controller
+pub mod Packets
+pub mod Records
+pub mod State

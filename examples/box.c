@@ -1,0 +1,98 @@
+#include "box.h"
+
+#include <errno.h>
+#include <fcntl.h>
+#include <poll.h>
+#include <stdio.h>
+#include <stdlib.h>
+#include <string.h>
+#include <sys/socket.h>
+#include <sys/un.h>
+#include <time.h>
+#include <unistd.h>
+
+_Noreturn void fail(const char *what) {
+    fprintf(stderr, "%s: %s\n", what, strerror(errno));
+    exit(1);
+}
+
+uint64_t clock_now(void) {
+    struct timespec t;
+    if (clock_gettime(CLOCK_MONOTONIC, &t) != 0) fail("clock");
+    return (uint64_t)t.tv_sec * 1000000000u + (uint64_t)t.tv_nsec;
+}
+
+int record_load(struct record_file *file) {
+    int f = open(file->path, O_RDONLY);
+    if (f < 0) {
+        if (errno == ENOENT) return 0;
+        fail(file->path);
+    }
+    ssize_t n = read(f, file->bytes, sizeof file->bytes);
+    close(f);
+    if (n != (ssize_t)sizeof file->bytes) fail(file->path);
+    return 1;
+}
+
+void record_keep(struct record_file *file, const uint8_t bytes[NOOSELESS_RECORD]) {
+    char aside[64];
+    if ((size_t)snprintf(aside, sizeof aside, "%s.new", file->path) >= sizeof aside) fail("record name");
+    int f = open(aside, O_WRONLY | O_CREAT | O_TRUNC, 0644);
+    if (f < 0) fail(aside);
+    if (write(f, bytes, NOOSELESS_RECORD) != NOOSELESS_RECORD) fail(aside);
+    if (fsync(f) != 0) fail(aside);
+    if (close(f) != 0) fail(aside);
+    if (rename(aside, file->path) != 0) fail(file->path);
+    int folder = open(".", O_RDONLY);
+    if (folder < 0) fail("folder");
+    if (fsync(folder) != 0) fail("folder");
+    close(folder);
+    memcpy(file->bytes, bytes, NOOSELESS_RECORD);
+}
+
+int log_open(const char *path) {
+    int log = open(path, O_WRONLY | O_CREAT | O_APPEND, 0644);
+    if (log < 0) fail(path);
+    return log;
+}
+
+void log_line(int log, uint64_t when, const char *word, const uint8_t *cells) {
+    char line[64];
+    int n = snprintf(line, sizeof line, "%llu %s %.16s\n", (unsigned long long)when, word,
+                     cells ? (const char *)cells : "-");
+    if (n < 0 || (size_t)n >= sizeof line) fail("log line");
+    if (write(log, line, (size_t)n) != n) fail("log");
+}
+
+static struct sockaddr_un named(const char *name) {
+    struct sockaddr_un a;
+    memset(&a, 0, sizeof a);
+    a.sun_family = AF_UNIX;
+    if (strlen(name) >= sizeof a.sun_path) fail("socket name");
+    strcpy(a.sun_path, name);
+    return a;
+}
+
+int radio_socket(const char *own) {
+    int s = socket(AF_UNIX, SOCK_DGRAM, 0);
+    if (s < 0) fail("socket");
+    struct sockaddr_un a = named(own);
+    unlink(own);
+    if (bind(s, (const struct sockaddr *)&a, sizeof a) != 0) fail(own);
+    return s;
+}
+
+void radio_send(int s, const char *to, const uint8_t *packet, size_t length) {
+    struct sockaddr_un a = named(to);
+    (void)!sendto(s, packet, length, MSG_DONTWAIT, (const struct sockaddr *)&a, sizeof a);
+}
+
+int radio_receive(int s, uint8_t *packet, size_t room) {
+    ssize_t n = recv(s, packet, room, MSG_DONTWAIT);
+    return n < 0 ? -1 : (int)n;
+}
+
+void wait_for(int a, int b, int ms) {
+    struct pollfd p[2] = {{a, POLLIN, 0}, {b, POLLIN, 0}};
+    if (poll(p, b < 0 ? 1 : 2, ms) < 0 && errno != EINTR) fail("poll");
+}

@@ -1,0 +1,125 @@
+/*
+ * Conducts a rehearsal in the working folder: starts the radio and both boxes, feeds orders to the console, and cuts the power (kill -9) of
+ * a box at moments by chance until there were enough cuts. Each cut is written to cuts.log.
+ *
+ * conduct PROGRAMS CUTS SEED SECONDS
+ */
+#include <errno.h>
+#include <fcntl.h>
+#include <signal.h>
+#include <stdio.h>
+#include <stdlib.h>
+#include <string.h>
+#include <sys/ioctl.h>
+#include <sys/prctl.h>
+#include <sys/wait.h>
+#include <time.h>
+#include <unistd.h>
+
+#include "box.h"
+#include "chance.h"
+
+#define MILLI 1000000u
+
+struct process {
+    const char *name;
+    pid_t id;
+};
+
+static const char *programs;
+static char *seed;
+static int orders[2]; /* a pipe that outlives each console */
+static struct chance chance;
+
+static void rest(uint64_t nanoseconds) {
+    struct timespec t = {(time_t)(nanoseconds / 1000000000u), (long)(nanoseconds % 1000000000u)};
+    while (nanosleep(&t, &t) != 0 && errno == EINTR) {
+    }
+}
+
+static void start(struct process *p) {
+    char path[512];
+    if ((size_t)snprintf(path, sizeof path, "%s/%s", programs, p->name) >= sizeof path) fail("path");
+    pid_t parent = getpid();
+    p->id = fork();
+    if (p->id < 0) fail("fork");
+    if (p->id > 0) return;
+    if (prctl(PR_SET_PDEATHSIG, SIGKILL) != 0 || getppid() != parent) _exit(1);
+    if (dup2(orders[0], STDIN_FILENO) < 0) _exit(1);
+    execl(path, p->name, seed, (char *)NULL);
+    fail(path);
+}
+
+/* A process that has ended by itself is a fault of its own. */
+static void cut(struct process *p) {
+    int status;
+    if (kill(p->id, SIGKILL) != 0) fail(p->name);
+    if (waitpid(p->id, &status, 0) != p->id) fail(p->name);
+    if (!WIFSIGNALED(status) || WTERMSIG(status) != SIGKILL) {
+        fprintf(stderr, "%s ended by itself\n", p->name);
+        exit(2);
+    }
+}
+
+/* Keeps a few orders ready: ORDER and ten digits, 16 cells. */
+static void feed(void) {
+    static unsigned long next = 1;
+    int waiting;
+    if (ioctl(orders[0], FIONREAD, &waiting) != 0) fail("orders");
+    while (waiting < 4 * (NOOSELESS_MESSAGE + 1)) {
+        char line[NOOSELESS_MESSAGE + 2];
+        snprintf(line, sizeof line, "ORDER %010lu\n", next++ % 10000000000u);
+        if (write(orders[1], line, NOOSELESS_MESSAGE + 1) != NOOSELESS_MESSAGE + 1) fail("orders");
+        waiting += NOOSELESS_MESSAGE + 1;
+    }
+}
+
+static void run_for(uint64_t nanoseconds) {
+    uint64_t end = clock_now() + nanoseconds;
+    do {
+        feed();
+        uint64_t left = end > clock_now() ? end - clock_now() : 0;
+        rest(left < MILLI ? left : MILLI);
+    } while (clock_now() < end);
+}
+
+/* One in five comes within 2 milliseconds, while the box starts; the others within 30. */
+static uint64_t until_next(void) { return below(&chance, (below(&chance, 5) == 0 ? 2 : 30) * MILLI); }
+
+int main(int argc, char **argv) {
+    if (argc != 5) {
+        fprintf(stderr, "usage: conduct PROGRAMS CUTS SEED SECONDS\n");
+        return 2;
+    }
+    programs = argv[1];
+    unsigned long wanted = strtoul(argv[2], NULL, 10);
+    seed = argv[3];
+    chance.state = strtoull(seed, NULL, 10) + 1;
+    uint64_t limit = clock_now() + strtoull(argv[4], NULL, 10) * 1000u * MILLI;
+    if (pipe(orders) != 0) fail("pipe");
+    int cuts = log_open("cuts.log");
+    struct process radio = {"radio", 0}, console = {"console_box", 0}, controller = {"controller_box", 0};
+    start(&radio);
+    rest(50 * MILLI);
+    start(&console);
+    start(&controller);
+    run_for(200 * MILLI);
+    unsigned long done = 0;
+    while (done < wanted && clock_now() < limit) {
+        run_for(until_next());
+        uint64_t who = below(&chance, 10);
+        struct process *hit[2] = {who < 5 ? &controller : &console, who == 9 ? &controller : NULL};
+        for (int i = 0; i < 2 && hit[i]; i++, done++) {
+            log_line(cuts, clock_now(), hit[i]->name, NULL);
+            cut(hit[i]);
+        }
+        rest(below(&chance, 4 * MILLI));
+        for (int i = 0; i < 2 && hit[i]; i++) start(hit[i]);
+    }
+    run_for(300 * MILLI);
+    cut(&console);
+    cut(&controller);
+    cut(&radio);
+    if (done < wanted) fprintf(stderr, "conduct: %lu of %lu cuts in the time given\n", done, wanted);
+    return done < wanted ? 3 : 0;
+}

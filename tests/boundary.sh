@@ -1,0 +1,34 @@
+#!/bin/sh
+# The archive's entries beside the second program in one process, on bytes of every sort, and the stack that they use:
+# boundary.sh [CASES [SEED]]
+set -u
+if [ "$(uname -m)" != x86_64 ]; then
+    echo "boundary: not run, the archive links into x86-64 programs only"
+    echo "0 passed, 0 failed"
+    exit 0
+fi
+passed=0
+failed=0
+stage() {
+    name=$1
+    shift
+    if "$@"; then
+        passed=$((passed + 1))
+    else
+        echo "boundary: $name failed"
+        failed=$((failed + 1))
+    fi
+}
+program=target/boundary
+. second/names.sh
+sources=tests/boundary/boundary.c
+for name in $core; do
+    sources="$sources second/$name.c"
+done
+stage library ./build-lib target/lib
+stage build "${CC:-cc}" -std=c11 -O2 -Wall -Wextra -Werror -Itarget/lib -o "$program" $sources target/lib/libnooseless.a
+stage comparison "$program" "${1:-4000000}" "${2:-1}"
+stage "build of the stack's measure" "${CC:-cc}" -std=c11 -O2 -Wall -Wextra -Werror -Itarget/lib -Wl,-z,now -o target/stack tests/boundary/stack.c target/lib/libnooseless.a
+stage stack target/stack 200000 1
+echo "$passed passed, $failed failed"
+[ "$failed" -eq 0 ]

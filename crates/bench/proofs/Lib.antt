@@ -5,6 +5,7 @@ pub mod ConsoleStages
 pub mod ControllerActing
 pub mod ControllerDone
 pub mod ControllerStages
+pub mod Determined
 pub mod Handing
 pub mod Knowing
 pub mod Losing
@@ -12,3 +13,5 @@ pub mod Refusing
 pub mod Rooms
 pub mod Stepping
 pub mod Tables
+pub mod Untouched
+pub mod Wrong

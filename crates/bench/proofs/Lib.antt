@@ -14,4 +14,5 @@ pub mod Rooms
 pub mod Stepping
 pub mod Tables
 pub mod Untouched
+pub mod Vectors
 pub mod Wrong

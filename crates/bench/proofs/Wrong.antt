@@ -102,9 +102,6 @@ unfolding benchFresh benchTold rules.fresh channel laid if_then_else_
 fresh-clears j i out back m n = rw (eq-eqb (length out) 2048 m, eq-eqb (length back) 2048 n) (refl, refl, refl)
 
 module _ (κs : Lfts 2) (a : Dens κs fresh-kinds.ps) (x : Outcome) (s : AtExit (endedOf 2 fresh-kinds.ps fresh-kinds.r) κs) (out-long : length (now (a .1 .1 .0)) ≡ 2048) (back-long : length (now (a .1 .1 .1 .0)) ≡ 2048) (meets : fresh.Post κs a x s) where
-  abbrev told : Result
-  told = benchFresh (a .0) (a .1 .0) (now (a .1 .1 .0)) (now (a .1 .1 .1 .0))
-
   pub fresh-always-refuses : (n : ℕ) → x .report ≡ report.Refused n → ⊥
   fresh-always-refuses n e =
       no-refusal n (sym (ap (λ (r : Result). r .outcome .report) meets ∙ fresh-clears (a .0) (a .1 .0) (now (a .1 .1 .0)) (now (a .1 .1 .1 .0)) out-long back-long .0) ∙ e)

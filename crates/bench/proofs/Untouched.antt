@@ -1,7 +1,7 @@
 -- A refusal leaves the bench and both tables byte for byte, and delivers nothing; for every input that the types allow.
 use Prim.Native.Nat.{ℕ}
 use mathlib.Core.Path.{_≡_, refl, sym, ap, subst, _∙_}
-use mathlib.Core.Bool.{Bool, true, false}
+use mathlib.Core.Bool.{true}
 use mathlib.Core.Option.{Option, none, some}
 use mathlib.Core.List.{List}
 use Rattle.ground.specs.Bytes.{Bytes}
@@ -20,7 +20,7 @@ use Rattle.ends.specs.declared.Report.the-variants as report
 use Rattle.channels.proofs.Channel.{packets-length}
 use Rattle.channels.proofs.Packets.{to-controller-coded, to-console-coded}
 use Rattle.bench.specs.Means.{benchOk, benchMeans, benchBack}
-use Rattle.bench.specs.Promise.{Result, benchRefused, benchTold, stepOf, benchStep}
+use Rattle.bench.specs.Promise.{benchRefused, benchTold, stepOf, benchStep}
 use Rattle.bench.specs.Within.{Known, Typed, insideMeans, insideOf}
 use Rattle.bench.specs.declared.Action.{Action}
 use Rattle.bench.specs.declared.Bench.{Bench}

@@ -12,9 +12,8 @@ use Rattle.wire.specs.Packet.{isBlank, packetBytes, headOf, headAt, readRefusal
 use Rattle.protocol.specs.Letters.{letters, among, letter}
 use Rattle.protocol.specs.Ends.{ToController, needI, order, done, ToConsole, offer, ok}
 use Rattle.protocol.specs.Bench as rules
-use Rattle.ends.specs.Fields.{consoleOk, consoleMode, consoleWith, freshConsole, downedConsole, controllerOk, controllerMode, controllerWith, freshController, downedController}
-use Rattle.ends.specs.declared.console.Mode.the-variants.{NeedI, Send}
-use Rattle.ends.specs.declared.controller.Mode.the-variants.{Accept, Ack}
+use Rattle.ends.specs.Fields.{consoleOk, consoleMode, consoleWith, freshConsole, downedConsole, controllerOk, controllerMode, freshController}
+use Rattle.ends.specs.declared.console.Mode.the-variants.{Send}
 use Rattle.ends.specs.declared.Report.{Report}
 use Rattle.ends.specs.declared.Report.the-variants as report
 use Rattle.ends.specs.declared.fields.Console.{Console}
@@ -209,3 +208,18 @@ delivery : benchStep (bench asking (has 3 3 0) 3 1) (act 0x52 1 2 spaces) (out (
     }
 unfolding computes
 delivery = refl
+
+-- ## Fresh: the tables cleared; a table of another length is 2, and neither is touched
+
+abbrev begun : Bench
+begun = bench (freshConsole (record { 0 = spent })) (freshController (record { 0 = 3 })) 0 0
+
+fresh-clears : benchFresh (record { 0 = spent }) (record { 0 = 3 }) (replicate 2048 7) (replicate 2048 8)
+    ≡ record { outcome = record { report = report.Nothing; message = spaces; bench = begun }; out = clear; back = clear }
+unfolding computes
+fresh-clears = refl
+
+fresh-ill : benchFresh (record { 0 = spent }) (record { 0 = 3 }) (replicate 2048 7) (replicate 2047 8)
+    ≡ record { outcome = record { report = report.Refused 2; message = spaces; bench = begun }; out = replicate 2048 7; back = replicate 2047 8 }
+unfolding computes
+fresh-ill = refl

@@ -19,12 +19,12 @@ use Rattle.wire.specs.declared.J.{J}
 use Rattle.wire.specs.Number.{bytesOf}
 use Rattle.wire.specs.Packet.{packetBytes}
 use Rattle.protocol.specs.Letters.{letters, among, letter}
-use Rattle.protocol.specs.Ends.{ToController, ToConsole, needI}
+use Rattle.protocol.specs.Ends.{needI}
 use Rattle.protocol.specs.Bench as rules
 use Rattle.ends.specs.Fields.{consoleOk, consoleMode, consoleWith, controllerOk, controllerMode, freshController}
 use Rattle.ends.specs.declared.console.Mode.the-variants.{NeedI}
 use Rattle.ends.specs.declared.Report.the-variants as report
-use Rattle.channels.specs.Packets.{toControllerBytes, toConsoleBytes}
+use Rattle.channels.specs.Packets.{toControllerBytes}
 use Rattle.channels.specs.Table.{laid, channel, packets, placesOk, tableOk}
 use Rattle.bench.specs.Means.{benchOk, benchMeans, benchBack}
 use Rattle.bench.specs.Promise.{Result, benchTold, benchStep, benchFresh}

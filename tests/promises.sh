@@ -92,7 +92,7 @@ lacking() {
 }
 
 # Names in backquotes: crate/File.name is defined in that crate's specs/ or proofs/; [crate/]name.edit is a must-fail edit, of the row's
-# own crate if none is named.
+# own crate if none is named; file.txt:name is a corner of that file in second/corners/.
 names() {
     grep -noE '`[a-z_]+/[A-Z][A-Za-z0-9]*\.[^` ]+`' "$1" | while IFS=: read -r line name; do
         name=$(printf '%s\n' "$name" | tr -d '`')
@@ -115,6 +115,9 @@ names() {
             if (name !~ /\//) name = crate "/" name
             print FNR, name } }' "$1" | while read -r line name; do
         [ -f "crates/${name%%/*}/must-fail/${name#*/}" ] || echo "$1:$line: $name"
+    done
+    grep -noE '`[a-z]+\.txt:[a-z0-9-]+`' "$1" | tr -d '`' | while IFS=: read -r line file name; do
+        grep -qx "corner $name" "second/corners/$file" || echo "$1:$line: $file:$name"
     done
 }
 

@@ -4,43 +4,32 @@ use mathlib.Core.Path.{_≡_, refl, sym, ap, subst, _∙_}
 use mathlib.Core.Bool.{Bool, true, false, _&&_, true≢false}
 use mathlib.Core.Option.{Option, none, some, Option·map}
 use mathlib.Core.List.{List}
-use lib.Dec.{ltb, leb}
+use lib.Dec.{ltb}
 use lib.ListN.{length}
 use borrow.Author.Tests.{ltb-true, ltb-false, le-leb}
-use Rattle.ground.specs.Cell.{isMessage, spaces}
 use Rattle.ground.specs.Choice.{if_then_else_}
 use Rattle.ground.proofs.Tests.{by-test}
 use Rattle.wire.specs.declared.Direction.{Direction}
-use Rattle.wire.specs.declared.Direction.the-variants as dir
-use Rattle.wire.specs.declared.ReadHead.the-variants.{Is}
 use Rattle.wire.specs.declared.ReadPacket.{ReadPacket}
-use Rattle.protocol.specs.Supply.{counted}
 use Rattle.protocol.specs.Letters as letters
 use Rattle.protocol.specs.Lists.{All}
 use Rattle.protocol.specs.Ends as ends
 use Rattle.protocol.specs.Bench as rules
-use Rattle.protocol.specs.Relabel.{in-packet, in-console-act, in-controller-act}
+use Rattle.protocol.specs.Relabel.{in-packet}
 use Rattle.protocol.proofs.Bench.{puts-sends}
 use Rattle.letters.specs.Lines.{letterMeans, lineOf}
 use Rattle.letters.specs.declared.Letter.{Letter}
-use Rattle.letters.specs.declared.Letter.the-variants as code
 use Rattle.letters.specs.declared.Line.{Line}
 use Rattle.ends.specs.Means.{forConsole, forController}
 use Rattle.ends.specs.Packets.{toControllerPacket, toConsolePacket}
-use Rattle.ends.specs.Console as console
-use Rattle.ends.specs.Controller as controller
-use Rattle.ends.specs.declared.ForConsole.{ForConsole}
-use Rattle.ends.specs.declared.ForConsole.the-variants as for-console
-use Rattle.ends.specs.declared.ForController.{ForController}
-use Rattle.ends.specs.declared.ForController.the-variants as for-controller
 use Rattle.ends.specs.declared.console.Act as console-act
 use Rattle.ends.specs.declared.controller.Act as controller-act
 use Rattle.channels.specs.Packets.{toControllerBytes, toConsoleBytes}
 use Rattle.channels.specs.Table.{channel, packetAt}
-use Rattle.channels.proofs.Channel.{Split, split, packet-at-is}
+use Rattle.channels.proofs.Channel.{split, packet-at-is}
 use Rattle.channels.proofs.Packets.{to-controller-coded, to-console-coded, ToControllerOk, ToConsoleOk}
 use Rattle.bench.specs.Asking.{goesToConsole, goesToController, readToConsole, heard, backAt, outAt, requested}
-use Rattle.bench.specs.Within.{Known, insideMeans, asksOf, lostFrom, Lined, OnConsole, OnController, OnLosing, puts}
+use Rattle.bench.specs.Within.{Known, insideMeans, asksOf, Lined, OnConsole, OnController, OnLosing}
 use Rattle.bench.specs.declared.Action.{Action}
 use Rattle.bench.specs.declared.asks.Asked.{Asked}
 use Rattle.bench.specs.declared.asks.Asked.the-variants.{Console, Controller, Lose}

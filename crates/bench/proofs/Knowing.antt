@@ -1,6 +1,6 @@
 -- A bench that passes its check is known: it is well formed in the rules, and its tables are what they stand for.
 use Prim.Native.Nat.{ℕ, _≤_, _<_, _^_}
-use mathlib.Core.Path.{_≡_, refl, sym, ap, subst, _∙_}
+use mathlib.Core.Path.{_≡_, sym, subst, _∙_}
 use mathlib.Core.Bool.{Bool, true, false, not, _&&_}
 use mathlib.Core.List.{List}
 use native.Mathlib.Omega.{arith}
@@ -15,7 +15,7 @@ use Rattle.wire.specs.declared.I.{I}
 use Rattle.wire.specs.declared.J.{J}
 use Rattle.wire.specs.declared.Direction.the-variants.{ToController, ToConsole}
 use Rattle.protocol.specs.Supply.{counted, largest}
-use Rattle.protocol.specs.WellFormed.{Number, Console-ok, Controller-ok, Well-formed}
+use Rattle.protocol.specs.WellFormed.{Number, Console-ok, Controller-ok}
 use Rattle.ends.specs.Fields.{consoleOk, consoleMode, consoleWith, controllerOk, controllerMode, controllerWith}
 use Rattle.ends.specs.InRules.{consoleMeans, controllerMeans}
 use Rattle.ends.proofs.ConsoleFields as console-fields

@@ -5,6 +5,7 @@ pub mod ConsoleStages
 pub mod ControllerActing
 pub mod ControllerDone
 pub mod ControllerStages
+pub mod Echoes
 pub mod Handing
 pub mod Knowing
 pub mod Losing

@@ -2,9 +2,9 @@
 use Prim.Native.Nat.{ℕ}
 use mathlib.Core.Path.{_≡_, refl, sym, ap, subst, _∙_}
 use mathlib.Core.Bool.{Bool, true, false, _&&_}
-use mathlib.Core.List.{List, []}
+use mathlib.Core.List.{List}
 use native.Mathlib.Omega.{arith}
-use lib.Dec.{leb, ltb}
+use lib.Dec.{leb}
 use Rattle.ground.specs.Cell.{isMessage, spaces}
 use Rattle.ground.specs.Choice.{if_then_else_}
 use Rattle.ground.specs.First.{refusal, first, applies}
@@ -14,7 +14,7 @@ use Rattle.protocol.specs.Supply.{counted}
 use Rattle.protocol.specs.Ends as ends
 use Rattle.protocol.specs.Bench as rules
 use Rattle.protocol.specs.WellFormed.{Well-formed}
-use Rattle.protocol.proofs.Stages.{staged, staged-3, staged-0, step-does}
+use Rattle.protocol.proofs.Stages.{staged-3, staged-0, step-does}
 use Rattle.protocol.proofs.Supply.{counted-lawful}
 use Rattle.protocol.proofs.WellFormed.{step-well-formed}
 use Rattle.letters.specs.Lines.{letterMeans}

@@ -7,13 +7,14 @@ use mathlib.Core.List.{List, [], _∷_, map}
 use native.Mathlib.Omega.{arith}
 use lib.ListN.{length}
 use borrow.Author.Tests.{eq-eqb, le-leb}
-use lib.Dec.{eqb}
 use Rattle.ground.specs.Cell.{isMessage}
 use Rattle.ground.specs.Choice.{if_then_else_}
 use Rattle.wire.specs.declared.I.{I}
 use Rattle.wire.specs.declared.J.{J}
 use Rattle.protocol.specs.Supply.{counted, largest}
-use Rattle.protocol.specs.Letters.{Letter, letter}
+use Rattle.protocol.specs.Letters.{Letter, line, letter}
+use Rattle.protocol.proofs.Letters.{letter-of}
+use Rattle.ends.specs.declared.Report.{Report}
 use Rattle.protocol.specs.Ends as ends
 use Rattle.protocol.specs.Bench as rules
 use Rattle.protocol.specs.Relabel.{in-report, in-bench, in-outcome}
@@ -31,22 +32,22 @@ use Rattle.ends.specs.Means.{reportBack}
 use Rattle.ends.specs.InRules.{delivered}
 use Rattle.channels.specs.Packets.{toControllerBytes, toConsoleBytes}
 use Rattle.channels.specs.Table.{channel}
-use Rattle.bench.specs.Means.{benchOk, benchMeans, benchBack}
-use Rattle.bench.specs.Promise.{Result, benchRefused, benchTold, stepOf, benchStep, benchFresh, freshRules}
-use Rattle.bench.specs.Orders.{outcomes, freshOutcomes, shownBy, allShown, OrdersRight}
+use Rattle.bench.specs.Means.{benchOk, benchBack}
+use Rattle.bench.specs.Promise.{Result, benchRefused, benchTold, benchStep, benchFresh, freshRules}
+use Rattle.bench.specs.Orders.{outcomes, freshOutcomes, shownBy, allShown, OrdersRight, leaves}
 use Rattle.bench.specs.declared.Action.{Action}
 use Rattle.bench.specs.declared.Outcome.{Outcome}
 use Rattle.bench.proofs.Standing.{stands-ok, stands-for}
 
 -- ## One step
 
-abbrev out : rules.Bench ℕ (List ℕ) → List ℕ
+abbrev pub out : rules.Bench ℕ (List ℕ) → List ℕ
 out b = channel toControllerBytes (b .toController)
 
-abbrev back : rules.Bench ℕ (List ℕ) → List ℕ
+abbrev pub back : rules.Bench ℕ (List ℕ) → List ℕ
 back b = channel toConsoleBytes (b .toConsole)
 
-abbrev asRules : Letter → Action → rules.Action (List ℕ)
+abbrev pub asRules : Letter → Action → rules.Action (List ℕ)
 asRules l a = rules.action l (a .place) (a .copies) (a .message)
 
 -- where the rules' bench stands, the promise's step is the rules' step
@@ -174,3 +175,26 @@ module _ (j : J) (i : I) (out₀ back₀ : List ℕ) (p : j .0 < 2 ^ 32) (q : i 
   -- in plain words
   pub orders-plain : Plain (written (orders-right .rows) [])
   orders-plain = right-plain (written (orders-right .rows) []) (orders-right .right)
+
+-- ## The step does on any well-formed bench what the rules do, so each starred check holds of it
+
+-- an action of the rules, with its letter's byte
+abbrev pub coded : rules.Action (List ℕ) → Action
+coded a = record { letter = line (a .letter) .byte; place = a .place; copies = a .copies; message = a .message }
+
+pub reports-are : (b : rules.Bench ℕ (List ℕ)) → Well-formed counted isMessage b → (l : List (rules.Action (List ℕ)))
+    → map (λ (o : Outcome). o .report) (outcomes (benchBack b) (out b) (back b) (map coded l)) ≡ map reportBack (rules.reports counted isMessage b l)
+unfolding outcomes rules.reports benchTold
+reports-are b w [] = refl
+reports-are b w (a ∷ l) =
+    let o = rules.step counted isMessage b a in
+    ap (λ (r : Result). r .outcome .report ∷ map (λ (x : Outcome). x .report) (outcomes (r .outcome .bench) (r .out) (r .back) (map coded l))) (step-of b w (coded a) (a .letter) (letter-of (a .letter)))
+    ∙ ap (λ (rs : List Report). reportBack (o .report) ∷ rs) (reports-are (o .after) (step-well-formed counted counted-lawful isMessage b a w) l)
+
+pub leaves-are : (b : rules.Bench ℕ (List ℕ)) → Well-formed counted isMessage b → (l : List (rules.Action (List ℕ)))
+    → let c = rules.run counted isMessage b l in leaves (benchBack b) (out b) (back b) (map coded l) ≡ (benchBack c, out c, back c)
+unfolding leaves rules.run benchTold
+leaves-are b w [] = refl
+leaves-are b w (a ∷ l) =
+    ap (λ (r : Result). leaves (r .outcome .bench) (r .out) (r .back) (map coded l)) (step-of b w (coded a) (a .letter) (letter-of (a .letter)))
+    ∙ leaves-are (rules.step counted isMessage b a .after) (step-well-formed counted counted-lawful isMessage b a w) l

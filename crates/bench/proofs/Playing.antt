@@ -1,19 +1,17 @@
 -- A record played on a known bench is the promise's step, or its refusal 1.
-use Prim.Native.Nat.{ℕ, _<_}
+use Prim.Native.Nat.{ℕ}
 use mathlib.Core.Path.{_≡_, refl, sym, ap, subst, _∙_}
 use mathlib.Core.Bool.{true}
 use mathlib.Core.Option.{Option, none, some}
 use mathlib.Core.List.{List}
 use lib.ListN.{length, getD}
 use borrow.Author.Tests.{eq-eqb}
-use lib.Dec.{eqb}
 use Rattle.ground.specs.Cell.{isMessage, spaces}
 use Rattle.ground.specs.Choice.{if_then_else_}
 use Rattle.ground.proofs.Tests.{by-test}
 use Rattle.protocol.specs.Supply.{counted}
 use Rattle.protocol.specs.Letters as letters
 use Rattle.protocol.specs.Letters.{letter}
-use Rattle.protocol.specs.Ends as ends
 use Rattle.protocol.specs.Bench as rules
 use Rattle.protocol.specs.WellFormed.{Well-formed}
 use Rattle.protocol.proofs.Letters.{letter-of}
@@ -31,7 +29,7 @@ use Rattle.records.proofs.Bounds.{read-well, read-ill}
 use Rattle.channels.specs.Packets.{toControllerBytes, toConsoleBytes}
 use Rattle.channels.specs.Table.{channel}
 use Rattle.bench.specs.Means.{benchOk, benchMeans, benchBack}
-use Rattle.bench.specs.Promise.{Result, benchRefused, benchTold, stepOf, benchStep}
+use Rattle.bench.specs.Promise.{Result, benchRefused, benchTold, benchStep}
 use Rattle.bench.specs.Running.{playedAs, played}
 use Rattle.bench.specs.Within.{Known, Within, within, withinTold, insideMeans, insideStep, actionOf, Lined, benchOf, outcomeOf, FoundLined, actionIn, recordOutcome, recordStep, Played}
 use Rattle.bench.specs.declared.Bench.{Bench}

@@ -1,27 +1,25 @@
 -- What the rules' bench stands for as fields and tables: it passes the check, and means what it was.
-use Prim.Native.Nat.{ℕ, _≤_, _<_}
-use mathlib.Core.Path.{_≡_, refl, sym, ap, _∙_}
-use mathlib.Core.Bool.{Bool, true, false, not, _&&_}
+use Prim.Native.Nat.{ℕ, _<_}
+use mathlib.Core.Path.{_≡_, refl}
+use mathlib.Core.Bool.{Bool, true}
 use mathlib.Core.List.{List}
 use native.Mathlib.Omega.{arith}
-use lib.Dec.{eqb, leb}
-use lib.ListN.{length}
+use lib.Dec.{leb}
 use borrow.Author.Tests.{ne-eqb, le-leb, leb-true}
 use Rattle.ground.specs.Cell.{isMessage, spaces}
 use Rattle.ground.specs.Choice.{if_then_else_}
 use Rattle.ground.specs.Every.{filled}
 use Rattle.ground.proofs.Every.{filled-replicate}
-use Rattle.ground.proofs.Tests.{and-left, and-right, and-both}
-use Rattle.wire.specs.declared.Direction.the-variants.{ToController, ToConsole}
+use Rattle.ground.proofs.Tests.{and-left, and-both}
 use Rattle.protocol.specs.Supply.{counted, largest}
 use Rattle.protocol.specs.Bears.{Console-bears, Controller-bears}
 use Rattle.protocol.specs.Ends as ends
 use Rattle.protocol.specs.Bench as rules
-use Rattle.protocol.specs.WellFormed.{Number, Given, Good, Console-ok, Controller-ok, Well-formed}
+use Rattle.protocol.specs.WellFormed.{Number, Given, Good, Well-formed}
 use Rattle.ends.specs.Fields.{consoleOk, consoleMode, controllerOk, controllerMode}
 use Rattle.ends.specs.InRules.{consoleMeans, consoleBack, controllerMeans, controllerBack}
 use Rattle.channels.specs.Packets.{toControllerBytes, toConsoleBytes}
-use Rattle.channels.specs.Table.{channel, tableOk}
+use Rattle.channels.specs.Table.{channel}
 use Rattle.channels.proofs.Channel.{channel-ok, packets-channel}
 use Rattle.channels.proofs.Packets.{to-controller-coded, to-console-coded}
 use Rattle.bench.specs.Means.{benchOk, benchMeans, benchBack}

@@ -4,7 +4,6 @@ use mathlib.Core.Path.{_≡_, refl, sym, ap, subst, _∙_}
 use mathlib.Core.Bool.{Bool, true, false, not}
 use mathlib.Core.Option.{Option, none, some}
 use mathlib.Core.List.{List}
-use lib.Dec.{eqb}
 use lib.ListN.{length, replicate}
 use borrow.Author.Tests.{eq-eqb, ne-eqb, not-true, not-false}
 use Rattle.ground.specs.Cell.{isMessage, spaces}
@@ -28,7 +27,7 @@ use Rattle.channels.proofs.Channel.{packets-length, channel-none}
 use Rattle.channels.proofs.Packets.{to-controller-coded, to-console-coded}
 use Rattle.bench.specs.Means.{benchOk, benchMeans, benchBack}
 use Rattle.bench.specs.Promise.{Result, benchRefused, benchTold, stepOf, benchStep, benchFresh}
-use Rattle.bench.specs.Within.{Within, within, withinTold, insideMeans, insideStep, insideOf, benchOf, outcomeOf, actionOf, Lined, linedStep}
+use Rattle.bench.specs.Within.{within, withinTold, insideMeans, insideStep, insideOf, benchOf, outcomeOf, actionOf, Lined, linedStep}
 use Rattle.bench.specs.declared.Action.{Action}
 use Rattle.bench.specs.declared.Bench.{Bench}
 use Rattle.bench.specs.declared.Outcome.{Outcome}

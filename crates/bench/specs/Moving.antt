@@ -1,6 +1,6 @@
 -- What the private functions promise of what goes into and out of a table. Nothing of it stands in the promise of an entry. Assumes nothing.
 use Prim.Native.Nat.{ℕ, _+_, _-_}
-use mathlib.Core.Bool.{Bool, true, false, not, _||_, _&&_}
+use mathlib.Core.Bool.{Bool, true, false, not, _&&_}
 use mathlib.Core.Option.{Option, none, some, Option·map}
 use mathlib.Core.List.{List}
 use lib.Dec.{leb, ltb}

@@ -47,3 +47,12 @@ pub record OrdersRight (j : J) (i : I) (out back : List ℕ) (l : List Action) :
   pub rows : List (Option (Event (List ℕ)))
   pub right : Right (written rows [])
   pub own : map (Option·map unnumbered) rows ≡ allShown l (freshOutcomes j i out back l)
+
+-- ## Where a list of actions leaves the bench and its tables
+
+abbrev pub Left : Type 0
+Left = Bench × List ℕ × List ℕ
+
+unfoldable pub leaves : Bench → List ℕ → List ℕ → List Action → Left
+leaves b out back [] = (b, out, back)
+leaves b out back (a ∷ l) = let r = benchStep b a out back in leaves (r .outcome .bench) (r .out) (r .back) l

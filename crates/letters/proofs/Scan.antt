@@ -1,46 +1,51 @@
--- A scan of the table of letters. The code's table is the rules' letters, each with its line: `map lineOf letters`.
-use Prim.Native.Nat.{ℕ, zero, suc, _+_, _≤_, _<_}
-use mathlib.Core.Path.{_≡_, sym, ap, _∙_}
+-- The table of letters at a place, and the byte that is no letter. The code's table is the rules' letters, each with its line: `map lineOf letters`.
+use Prim.Native.Nat.{ℕ, zero, suc, _<_}
+use mathlib.Core.Path.{_≡_, refl, sym}
 use mathlib.Core.Bool.{false}
 use mathlib.Core.List.{List, [], _∷_, map}
 use native.Mathlib.Nat.{le-of-suc-le-suc, not-suc-le-zero}
-use native.Mathlib.Numerals.{add-one}
-use borrow.Author.Tests.{eq-eqb, ne-eqb}
-use lib.ListN.{length, getD, drop, drop-of-length-le}
+use borrow.Author.Tests.{ne-eqb}
+use lib.ListN.{length, getD}
 use Rattle.ground.specs.Choice.{if_then_else_}
-use Rattle.protocol.specs.Letters.{Letter, letters, among, letter}
-use Rattle.letters.specs.Lines.{lineOf, foundOf}
+use Rattle.protocol.specs.Bench.{at}
+use Rattle.protocol.specs.Letters.{Letter, line, letters, among, letter}
+use Rattle.letters.specs.Lines.{lineOf, foundOf, foundAt}
 use Rattle.letters.specs.declared.Letter.the-variants.{P}
 use Rattle.letters.specs.declared.Line.{Line}
 use Rattle.letters.specs.declared.Found.the-variants as found
 
--- over any list: the line at k has the byte, or has it not
-hit : (ls : List Letter) (k b : ℕ) (d : Line) → k < length ls → getD (map lineOf ls) k d .byte ≡ b → found.Line (getD (map lineOf ls) k d) ≡ foundOf (among (drop k ls) b)
-unfolding lineOf among if_then_else_
-hit [] k b d h e = absurd (not-suc-le-zero h)
-hit (l ∷ ls) zero b d h e = rw (eq-eqb _ _ e)
-hit (l ∷ ls) (suc k) b d h e = hit ls k b d (le-of-suc-le-suc h) e
-
-miss : (ls : List Letter) (k b : ℕ) (d : Line) → k < length ls → (getD (map lineOf ls) k d .byte ≡ b → ⊥) → among (drop k ls) b ≡ among (drop (suc k) ls) b
-unfolding lineOf among if_then_else_
-miss [] k b d h n = absurd (not-suc-le-zero h)
-miss (l ∷ ls) zero b d h n = rw (ne-eqb _ _ n)
-miss (l ∷ ls) (suc k) b d h n = miss ls k b d (le-of-suc-le-suc h) n
+-- over any list
+line-of : (ls : List Letter) (k : ℕ) (d : Line) → k < length ls → found.Line (getD (map lineOf ls) k d) ≡ foundOf (at ls k)
+unfolding at
+line-of [] k d h = absurd (not-suc-le-zero h)
+line-of (l ∷ ls) zero d h = refl
+line-of (l ∷ ls) (suc k) d h = line-of ls k d (le-of-suc-le-suc h)
 
 -- what an array of lines has past its end
 abbrev pub no-line : Line
 no-line = record { byte = 0; letter = P; place = false; copies = false; message = false }
 
--- a scan for b that has come to line k: the line has it, has it not, and the end
-module _ (b k : ℕ) (known : letter b ≡ among (drop k letters) b) where
-  pub scan-hit : k < 13 → getD (map lineOf letters) k no-line .byte ≡ b → found.Line (getD (map lineOf letters) k no-line) ≡ foundOf (letter b)
-  unfolding letters
-  scan-hit h e = hit letters k b no-line h e ∙ ap foundOf (sym known)
+pub at-line : (k : ℕ) → k < 13 → found.Line (getD (map lineOf letters) k no-line) ≡ foundAt k
+unfolding letters foundAt
+at-line k h = line-of letters k no-line h
 
-  pub scan-miss : k < 13 → (getD (map lineOf letters) k no-line .byte ≡ b → ⊥) → letter b ≡ among (drop (k + 1) letters) b
-  unfolding letters
-  scan-miss h n = known ∙ miss letters k b no-line h n ∙ rw add-one
-
-  pub scan-end : 13 ≤ k → found.Nothing ≡ foundOf (letter b)
-  unfolding letters among
-  scan-end h = rw (known, drop-of-length-le letters {i = k} h)
+-- a byte that is none of the thirteen
+pub no-letter : (b : ℕ) → (b ≡ 0x50 → ⊥) → (b ≡ 0x51 → ⊥) → (b ≡ 0x44 → ⊥) → (b ≡ 0x53 → ⊥) → (b ≡ 0x43 → ⊥) → (b ≡ 0x56 → ⊥) → (b ≡ 0x4F → ⊥) → (b ≡ 0x4B → ⊥)
+    → (b ≡ 0x52 → ⊥) → (b ≡ 0x58 → ⊥) → (b ≡ 0x59 → ⊥) → (b ≡ 0x4C → ⊥) → (b ≡ 0x4D → ⊥) → found.Nothing ≡ foundOf (letter b)
+unfolding letter letters line among if_then_else_
+no-letter b p q d s c v o k r x y l m =
+    rw (
+      ne-eqb 0x50 b (λ e. p (sym e)),
+      ne-eqb 0x51 b (λ e. q (sym e)),
+      ne-eqb 0x44 b (λ e. d (sym e)),
+      ne-eqb 0x53 b (λ e. s (sym e)),
+      ne-eqb 0x43 b (λ e. c (sym e)),
+      ne-eqb 0x56 b (λ e. v (sym e)),
+      ne-eqb 0x4F b (λ e. o (sym e)),
+      ne-eqb 0x4B b (λ e. k (sym e)),
+      ne-eqb 0x52 b (λ e. r (sym e)),
+      ne-eqb 0x58 b (λ e. x (sym e)),
+      ne-eqb 0x59 b (λ e. y (sym e)),
+      ne-eqb 0x4C b (λ e. l (sym e)),
+      ne-eqb 0x4D b (λ e. m (sym e)),
+    )

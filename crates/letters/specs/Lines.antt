@@ -1,5 +1,7 @@
 -- What the rules' letters and lines are in the code. Assumes nothing.
+use Prim.Native.Nat.{ℕ}
 use mathlib.Core.Option.{Option, none, some}
+use Rattle.protocol.specs.Bench.{at}
 use Rattle.protocol.specs.Letters as rules
 use Rattle.letters.specs.declared.Letter.{Letter}
 use Rattle.letters.specs.declared.Letter.the-variants as code
@@ -50,3 +52,7 @@ lineOf l =
 abbrev pub foundOf : Option rules.Letter → Found
 foundOf none = found.Nothing
 foundOf (some l) = found.Line (lineOf l)
+
+-- the line at a place of the table
+unfoldable pub foundAt : ℕ → Found
+foundAt k = foundOf (at rules.letters k)

@@ -1,7 +1,8 @@
 // The thirteen letters and the fields that each uses, as document 01's table has them.
+ghost use Prim.Native.Nat.{_<_};
 ghost use mathlib.Core.Path.{_≡_};
 ghost use Rattle.protocol.specs.Letters.{letter};
-ghost use Rattle.letters.specs.Lines.{foundOf};
+ghost use Rattle.letters.specs.Lines.{foundOf, foundAt};
 
 pub enum Letter {
     P,
@@ -127,17 +128,32 @@ pub const LINES: [Line; 13] = [
     },
 ];
 
+// A line of the table. At a place that is known when the code is compiled, nothing of the table is laid out.
+fn line_at(k: usize) -> Found
+    requires { ⌜ k < 13 ⌝ }
+    ensures { λ r. ⌜ r ≡ foundAt k ⌝ }
+{
+    Found::Line(LINES[k])
+}
+
 // The line of a byte; Nothing: no action has this letter.
 pub fn find(byte: u8) -> Found
     ensures { λ r. ⌜ r ≡ foundOf (letter byte) ⌝ }
 {
-    let mut k = 0;
-    while k < 13 {
-        let line = LINES[k];
-        if line.byte == byte {
-            return Found::Line(line);
-        }
-        k += 1;
+    match byte {
+        b'P' => line_at(0),
+        b'Q' => line_at(1),
+        b'D' => line_at(2),
+        b'S' => line_at(3),
+        b'C' => line_at(4),
+        b'V' => line_at(5),
+        b'O' => line_at(6),
+        b'K' => line_at(7),
+        b'R' => line_at(8),
+        b'X' => line_at(9),
+        b'Y' => line_at(10),
+        b'L' => line_at(11),
+        b'M' => line_at(12),
+        _ => Found::Nothing,
     }
-    Found::Nothing
 }

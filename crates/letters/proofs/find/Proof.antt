@@ -1,32 +1,41 @@
--- `letters::find` meets its contract. The invariant: what is left of the table decides as the whole does.
-use Prim.Native.Nat.{_≤_, _-_}
-use mathlib.Core.Path.{_≡_}
 use borrow.Author.Needs.{needs}
-use lib.ListN.{drop}
+use Rattle.ground.specs.Choice.{if_then_else_}
+use Rattle.protocol.specs.Bench.{at}
 use Rattle.protocol.specs.Letters.{line, letters, among, letter}
-use Rattle.letters.specs.Lines.{lineOf}
-use Rattle.letters.proofs.Scan.{scan-hit, scan-miss, scan-end}
+use Rattle.letters.specs.Lines.{foundAt}
+use Rattle.letters.proofs.Scan.{no-letter}
 use Rattle.letters.proofs.find.Statement.{statement}
 use Rattle.letters.proofs.find.Tie as tie
 
-abbrev Inv-loop : tie.InvT-loop
-Inv-loop byte k₀ k = (k ≤ 13) × (letter byte ≡ among (drop k letters) byte)
-
-abbrev μ-loop : tie.MeasureT-loop
-μ-loop byte k₀ k = 13 - k
-
 pub find-spec : {M : Type 1} → statement M
-unfolding letter letters line lineOf
+unfolding letter letters line among foundAt at if_then_else_
 find-spec =
     tie.close
     (tie.spec
-    Inv-loop
-    μ-loop
-    (λ c. search needs)
-    (λ c. search needs)
-    (λ c. search needs)
-    (λ c. search scan-hit)
-    (λ c. search needs)
-    (λ c. search needs)
-    (λ c. (search needs, search (scan-miss, c .if1 .left)))
-    (λ c. search scan-end))
+    (λ c κs. search needs)
+    (λ c κs. search needs)
+    (λ c κs. search needs)
+    (λ c κs. search needs)
+    (λ c κs. search needs)
+    (λ c κs. search needs)
+    (λ c κs. search needs)
+    (λ c κs. search needs)
+    (λ c κs. search needs)
+    (λ c κs. search needs)
+    (λ c κs. search needs)
+    (λ c κs. search needs)
+    (λ c κs. search needs)
+    (λ c. rw (c .before .match .keys1) (c .line-at .ensures))
+    (λ c. rw (c .before .match .keys2) (c .line-at2 .ensures))
+    (λ c. rw (c .before .match .keys3) (c .line-at3 .ensures))
+    (λ c. rw (c .before .match .keys4) (c .line-at4 .ensures))
+    (λ c. rw (c .before .match .keys5) (c .line-at5 .ensures))
+    (λ c. rw (c .before .match .keys6) (c .line-at6 .ensures))
+    (λ c. rw (c .before .match .keys7) (c .line-at7 .ensures))
+    (λ c. rw (c .before .match .keys8) (c .line-at8 .ensures))
+    (λ c. rw (c .before .match .keys9) (c .line-at9 .ensures))
+    (λ c. rw (c .before .match .keys10) (c .line-at10 .ensures))
+    (λ c. rw (c .before .match .keys11) (c .line-at11 .ensures))
+    (λ c. rw (c .before .match .keys12) (c .line-at12 .ensures))
+    (λ c. rw (c .before .match .keys13) (c .line-at13 .ensures))
+    (λ c. no-letter _ (c .match .rest .0 .0 .0 .0 .0 .0 .0 .0 .0 .0 .0 .0 .1) (c .match .rest .0 .0 .0 .0 .0 .0 .0 .0 .0 .0 .0 .1) (c .match .rest .0 .0 .0 .0 .0 .0 .0 .0 .0 .0 .1) (c .match .rest .0 .0 .0 .0 .0 .0 .0 .0 .0 .1) (c .match .rest .0 .0 .0 .0 .0 .0 .0 .0 .1) (c .match .rest .0 .0 .0 .0 .0 .0 .0 .1) (c .match .rest .0 .0 .0 .0 .0 .0 .1) (c .match .rest .0 .0 .0 .0 .0 .1) (c .match .rest .0 .0 .0 .0 .1) (c .match .rest .0 .0 .0 .1) (c .match .rest .0 .0 .1) (c .match .rest .0 .1) (c .match .rest .1)))

@@ -85,7 +85,7 @@ lacking() {
     grep -E '^\| `[a-z_]+::' docs/PROMISES.md | awk -F ' [|] ' '
         { entry = $1; sub(/^[|] /, "", entry) }
         NF != 6 { print entry ": " NF " cells"; next }
-        $4 !~ /^`[a-z]+\/Determined\.[a-z-]+`$/ { print entry ": no determinacy lemma" }
+        $4 !~ /^`[a-z]+\/[A-Z][A-Za-z]*\.[a-z-]+-determined`$/ { print entry ": no determinacy lemma" }
         $5 !~ /;/ { print entry ": no second wrong program" }
         $6 !~ /^[123](, [123])* [|]$/ { print entry ": no demand" }
     '

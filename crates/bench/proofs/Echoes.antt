@@ -1,4 +1,4 @@
--- The runner's promise determines what it gives and writes; and it shuts out a runner that works the first record and echoes the rest.
+-- The runner's promise shuts out a runner that works the first record and echoes the rest.
 use Prim.Native.Nat.{ℕ, _+_}
 use mathlib.Core.Path.{_≡_, refl, sym, ap, _∙_}
 use mathlib.Core.List.{List, [], _∷_, _++_}
@@ -11,7 +11,6 @@ use lib.ListN.{length, getD, drop, replicate}
 use Rattle.ground.specs.Cell.{cells, isMessage, spaces}
 use Rattle.ground.specs.Choice.{if_then_else_}
 use Rattle.ground.specs.Every.{filled}
-use Rattle.ground.proofs.Promise.{DeterminedWith}
 use Rattle.protocol.specs.Supply.{counted}
 use Rattle.protocol.specs.Letters.{P-put, line, letters, among, letter}
 use Rattle.protocol.specs.Ends as ends
@@ -34,9 +33,6 @@ use Rattle.bench.specs.declared.Action.{Action}
 use Rattle.bench.proofs.Orders.{out, back, asRules, step-of}
 use Rattle.bench.proofs.runner.run.Kinds as run-kinds
 use Rattle.bench.proofs.runner.run.Reads as run
-
-pub run-determined : DeterminedWith run-kinds.ps run-kinds.r run.Post (λ κs s. now (s .1 .0))
-run-determined κs a x y s t p q = (p .number ∙ sym (q .number), p .whole ∙ sym (q .whole))
 
 -- ## Two puts: the second is 6
 

@@ -5,6 +5,7 @@ pub mod ConsoleStages
 pub mod ControllerActing
 pub mod ControllerDone
 pub mod ControllerStages
+pub mod Determined
 pub mod Echoes
 pub mod Handing
 pub mod Knowing
@@ -17,3 +18,6 @@ pub mod Running
 pub mod Standing
 pub mod Stepping
 pub mod Tables
+pub mod Untouched
+pub mod Vectors
+pub mod Wrong

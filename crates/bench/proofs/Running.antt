@@ -20,7 +20,7 @@ use Rattle.channels.proofs.Channel.{channel-none}
 use Rattle.channels.proofs.Packets.{to-controller-coded, to-console-coded}
 use Rattle.bench.specs.Means.{benchBack}
 use Rattle.channels.proofs.Parts.{part, replaced, part-length}
-use Rattle.bench.specs.Running.{recordsOf, played, lines, limitOf, listLines, Ran}
+use Rattle.bench.specs.Running.{recordsOf, played, lines, limitOf, listLines, listOutput, Ran}
 use Rattle.bench.specs.Within.{Known, insideMeans, benchOf, Played, endOf, linesOn, started}
 use Rattle.bench.specs.declared.Bench.{Bench}
 use Rattle.bench.specs.declared.inside.Inside.{Inside}
@@ -206,3 +206,8 @@ ran-fits {all} {before} {after} h =
 
 pub ran-prefix : {all before after : List ℕ} {n : ℕ} → Ran all before after n → n ≡ length (take n after)
 ran-prefix {all} {before} {after} {n} h = sym (length-take-le n after (ran-fits h))
+
+-- with room for 9,999 lines it is the whole output of the list program
+pub whole-list : (s : List ℕ) → listLines (limitOf 269_973) s ≡ listOutput s
+unfolding limitOf listOutput if_then_else_
+whole-list s = refl

@@ -19,6 +19,18 @@ use Rattle.ends.proofs.fields.read_console.Kinds as read-console-kinds
 use Rattle.ends.proofs.fields.read_console.Reads as read-console
 use Rattle.ends.proofs.fields.read_controller.Kinds as read-controller-kinds
 use Rattle.ends.proofs.fields.read_controller.Reads as read-controller
+use Rattle.ends.proofs.fields.console_was_read.Kinds as console-was-read-kinds
+use Rattle.ends.proofs.fields.console_was_read.Reads as console-was-read
+use Rattle.ends.proofs.fields.console_ok.Kinds as console-ok-kinds
+use Rattle.ends.proofs.fields.console_ok.Reads as console-ok
+use Rattle.ends.proofs.fields.console_end.Kinds as console-end-kinds
+use Rattle.ends.proofs.fields.console_end.Reads as console-end
+use Rattle.ends.proofs.fields.controller_was_read.Kinds as controller-was-read-kinds
+use Rattle.ends.proofs.fields.controller_was_read.Reads as controller-was-read
+use Rattle.ends.proofs.fields.controller_ok.Kinds as controller-ok-kinds
+use Rattle.ends.proofs.fields.controller_ok.Reads as controller-ok
+use Rattle.ends.proofs.fields.controller_end.Kinds as controller-end-kinds
+use Rattle.ends.proofs.fields.controller_end.Reads as controller-end
 use Rattle.ends.proofs.fields.console_of.Kinds as console-of-kinds
 use Rattle.ends.proofs.fields.console_of.Reads as console-of
 use Rattle.ends.proofs.fields.controller_of.Kinds as controller-of-kinds
@@ -49,6 +61,24 @@ read-console-determined κs a x y s t p q = p ∙ sym q
 
 pub read-controller-determined : Determined read-controller-kinds.ps read-controller-kinds.r read-controller.Post
 read-controller-determined κs a x y s t p q = p ∙ sym q
+
+pub console-was-read-determined : Determined console-was-read-kinds.ps console-was-read-kinds.r console-was-read.Post
+console-was-read-determined κs a x y s t p q = p ∙ sym q
+
+pub console-ok-determined : Determined console-ok-kinds.ps console-ok-kinds.r console-ok.Post
+console-ok-determined κs a x y s t p q = p ∙ sym q
+
+pub console-end-determined : Determined console-end-kinds.ps console-end-kinds.r console-end.Post
+console-end-determined κs a x y s t p q = p ∙ sym q
+
+pub controller-was-read-determined : Determined controller-was-read-kinds.ps controller-was-read-kinds.r controller-was-read.Post
+controller-was-read-determined κs a x y s t p q = p ∙ sym q
+
+pub controller-ok-determined : Determined controller-ok-kinds.ps controller-ok-kinds.r controller-ok.Post
+controller-ok-determined κs a x y s t p q = p ∙ sym q
+
+pub controller-end-determined : Determined controller-end-kinds.ps controller-end-kinds.r controller-end.Post
+controller-end-determined κs a x y s t p q = p ∙ sym q
 
 pub console-of-determined : Determined console-of-kinds.ps console-of-kinds.r console-of.Post
 console-of-determined κs a x y s t p q = p ∙ sym q

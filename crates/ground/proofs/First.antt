@@ -2,7 +2,7 @@
 use Prim.Native.Nat.{ℕ}
 use mathlib.Core.Path.{_≡_, refl, _∙_}
 use mathlib.Core.Bool.{Bool, true, false, not}
-use mathlib.Core.List.{List, [], _∷_, _++_}
+use mathlib.Core.List.{List, [], _∷_, _++_, map}
 use native.Mathlib.Omega.{arith}
 use lib.Dec.{ltb}
 use borrow.Author.Tests.{ltb-true, not-false}
@@ -47,7 +47,10 @@ first-more (r ∷ rs) qs h e =
     let p = none-applies (r .0) (r .1) rs (and-left (ltb 0 (r .0)) (every (λ (q : Rule). ltb 0 (q .0)) rs) h) e in
     first-passes (r .0) (r .1) (rs ++ qs) (p .0) ∙ first-more rs qs (and-right (ltb 0 (r .0)) (every (λ (q : Rule). ltb 0 (q .0)) rs) h) (p .1)
 
--- where two rules apply, `order` decides and not the place in the list: a put of a row with 0x7F by a console that is down is 11, not 4
-pub cells-before-down : refusal ((4, true) ∷ (11, true) ∷ []) ≡ 11
+-- where two rules apply, `order` decides and not the place in the list; document 01's pairs, the first of which comes first. A put of a row
+-- with 0x7F by a console that is down is 11, not 4
+pub order-decides : map (λ (p : ℕ × ℕ). refusal ((p .1, true) ∷ (p .0, true) ∷ []))
+    ((11, 4) ∷ (10, 4) ∷ (10, 6) ∷ (4, 6) ∷ (4, 3) ∷ (6, 8) ∷ (6, 9) ∷ (3, 7) ∷ (7, 9) ∷ [])
+    ≡ 11 ∷ 10 ∷ 10 ∷ 4 ∷ 4 ∷ 6 ∷ 6 ∷ 3 ∷ 7 ∷ []
 unfolding refusal first applies if_then_else_
-cells-before-down = refl
+order-decides = refl

@@ -1,0 +1,100 @@
+-- A refusal leaves the bench and both tables byte for byte, and delivers nothing; for every input that the types allow.
+use Prim.Native.Nat.{ℕ}
+use mathlib.Core.Path.{_≡_, refl, sym, ap, subst, _∙_}
+use mathlib.Core.Bool.{true}
+use mathlib.Core.Option.{Option, none, some}
+use mathlib.Core.List.{List}
+use Rattle.ground.specs.Bytes.{Bytes}
+use Rattle.ground.specs.Cell.{isMessage, spaces}
+use Rattle.ground.specs.Choice.{if_then_else_}
+use Rattle.ground.proofs.Tests.{by-test}
+use Rattle.protocol.specs.Supply.{counted}
+use Rattle.protocol.specs.Letters.{Letter, letter}
+use Rattle.protocol.specs.Ends as ends
+use Rattle.protocol.specs.Bench as rules
+use Rattle.protocol.proofs.Bench.{step-refused-same}
+use Rattle.ends.specs.Means.{reportBack}
+use Rattle.ends.proofs.Telling.{unchanged, controller-unchanged}
+use Rattle.ends.specs.declared.Report.{Report}
+use Rattle.ends.specs.declared.Report.the-variants as report
+use Rattle.channels.proofs.Channel.{packets-length}
+use Rattle.channels.proofs.Packets.{to-controller-coded, to-console-coded}
+use Rattle.bench.specs.Means.{benchOk, benchMeans, benchBack}
+use Rattle.bench.specs.Promise.{benchRefused, benchTold, stepOf, benchStep}
+use Rattle.bench.specs.Within.{Known, Typed, insideMeans, insideOf}
+use Rattle.bench.specs.declared.Action.{Action}
+use Rattle.bench.specs.declared.Bench.{Bench}
+use Rattle.bench.proofs.Knowing.{console-passes, controller-passes, known-so}
+
+abbrev number : Report → ℕ
+number report.Nothing = 0
+number report.Delivered = 0
+number report.Ok = 0
+number report.Lost = 0
+number (report.Refused n) = n
+
+abbrev IsRefused : Report → Type 0
+IsRefused report.Nothing = ⊥
+IsRefused report.Delivered = ⊥
+IsRefused report.Ok = ⊥
+IsRefused report.Lost = ⊥
+IsRefused (report.Refused n) = Unit {0}
+
+-- the rules refused with the same number
+refused-in-rules : (r : ends.Report (List ℕ)) (n : ℕ) → reportBack r ≡ report.Refused n → r ≡ ends.refused n
+refused-in-rules ends.nothing n e = absurd (subst IsRefused (sym e) tt)
+refused-in-rules (ends.delivered m) n e = absurd (subst IsRefused (sym e) tt)
+refused-in-rules ends.answered-ok n e = absurd (subst IsRefused (sym e) tt)
+refused-in-rules ends.answered-lost n e = absurd (subst IsRefused (sym e) tt)
+refused-in-rules (ends.refused k) n e = ap ends.refused (ap number e)
+
+module _ (b : Bench) (out back : List ℕ) where
+  -- what is refused before the rules are asked
+  refused-early : (k n : ℕ) → benchRefused k b out back .outcome .report ≡ report.Refused n → benchRefused k b out back ≡ benchRefused n b out back
+  unfolding benchRefused
+  refused-early k n e = ap (λ (m : ℕ). benchRefused m b out back) (ap number e)
+
+  module _ (typed : Typed (b .console) (b .controller)) (p : Bytes out) (q : Bytes back) where
+    -- a well-formed bench is what it means, as fields and tables
+    same : benchOk b out back ≡ true → (n : ℕ) → benchTold (record { report = ends.refused n; after = benchMeans b out back }) ≡ benchRefused n b out back
+    unfolding benchTold benchRefused benchBack benchMeans insideOf insideMeans
+    same ok n =
+        let k : Known (insideOf b) out back = known-so b out back typed p q (sym ok) refl refl in
+        λ i.
+        record {
+          outcome =
+              record {
+                report = report.Refused n;
+                message = spaces;
+                bench =
+                    record {
+                      console = unchanged (b .console) (typed .message) (console-passes b out back typed p q ok) i;
+                      controller = controller-unchanged (b .controller) (controller-passes b out back typed p q ok) i;
+                      sent = packets-length to-controller-coded (b .sent) out i;
+                      returned = packets-length to-console-coded (b .returned) back i;
+                    };
+              };
+          out = sym (k .out-holds) i;
+          back = sym (k .back-holds) i;
+        }
+
+    told-same : (a : rules.Action (List ℕ)) (n : ℕ) → benchOk b out back ≡ true
+        → benchTold (rules.step counted isMessage (benchMeans b out back) a) .outcome .report ≡ report.Refused n
+        → benchTold (rules.step counted isMessage (benchMeans b out back) a) ≡ benchRefused n b out back
+    unfolding benchTold
+    told-same a n ok e =
+        let o = rules.step counted isMessage (benchMeans b out back) a in
+        let f : o .report ≡ ends.refused n = refused-in-rules (o .report) n e in
+        (λ i. benchTold (record { report = f i; after = step-refused-same counted isMessage (benchMeans b out back) a n f i })) ∙ same ok n
+
+    of-letter : (l : Option Letter) (a : Action) (n : ℕ) → stepOf l b a out back .outcome .report ≡ report.Refused n → stepOf l b a out back ≡ benchRefused n b out back
+    unfolding if_then_else_
+    of-letter none a n e = refused-early 1 n e
+    of-letter (some l) a n e =
+        by-test (benchOk b out back)
+        (λ y. rw y (told-same (rules.action l (a .place) (a .copies) (a .message)) n y (rw y at e)))
+        (λ z. rw z (refused-early 2 n (rw z at e)))
+
+    pub refused-same : (a : Action) (n : ℕ) → benchStep b a out back .outcome .report ≡ report.Refused n → benchStep b a out back ≡ benchRefused n b out back
+    unfolding benchStep
+    refused-same a n e = of-letter (letter (a .letter)) a n e

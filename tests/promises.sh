@@ -1,6 +1,6 @@
 #!/bin/sh
 # docs/PROMISES.md beside the sources: every public entry has one row and every row an entry, each entry has one `ensures` and no
-# `requires`, each row a determinacy lemma and two wrong programs. Every definition, lemma and must-fail edit that PROMISES, READING
+# `requires`, each row a determinacy lemma that sees every buffer lent to be written, and two wrong programs. Every definition, lemma and must-fail edit that PROMISES, READING
 # or TRACE names exists, and the line counts of READING are those of the files.
 set -u
 dir=target/promises
@@ -51,19 +51,20 @@ rows() {
     sed -n 's/^| `\([a-z_]*::[a-z0-9_:]*\)` |.*/\1/p' docs/PROMISES.md | sort
 }
 
-# What an entry's head says, from its `pub fn` to the line that opens its body.
+# Of each `pub fn`, from its head to the line that opens its body: file, name, how many ensures, requires and `&mut`.
 heads() {
     for file in crates/*/src/*.rt; do
         awk -v file="$file" '
-            /^ *pub (extern "C" )?fn / { on = 1; name = $0; sub(/^.*fn /, "", name); sub(/[<(].*/, "", name); e = 0; r = 0 }
+            /^ *pub (extern "C" )?fn / { on = 1; name = $0; sub(/^.*fn /, "", name); sub(/[<(].*/, "", name); e = 0; r = 0; m = 0 }
             on && /^ *ensures / { e++ }
             on && /^ *requires / { r++ }
-            on && /^ *\{/ { print file, name, e, r; on = 0 }
+            on { text = $0; m += gsub(/&(.[a-z]+ )?mut /, "", text) }
+            on && /^ *\{/ { print file, name, e, r, m; on = 0 }
         ' "$file"
     done
 }
 
-# Entries without a promise, or with something asked of the caller.
+# Entries without a promise, with something asked of the caller, or whose lemma sees fewer buffers than are lent to be written.
 unpromised() {
     heads > "$dir/heads"
     while read -r entry; do
@@ -71,10 +72,12 @@ unpromised() {
         name=${entry##*::}
         middle=${entry#*::}
         module=${middle%%::*}
-        awk -v crate="$crate" -v name="$name" -v module="$module" -v entry="$entry" '
-            index($1, "crates/" crate "/src/") == 1 && $2 == name &&
-                (module == name || $1 == "crates/" crate "/src/" module ".rt") && ($3 != 1 || $4 != 0) {
-                print entry ": " $3 " ensures, " $4 " requires"
+        lemma=$(grep -F "| \`$entry\` |" docs/PROMISES.md | sed -n 's/.*\.\([a-z-]*-determined\)`.*/\1/p')
+        seen=$(cat crates/"$crate"/proofs/*.antt | grep "^pub $lemma :" | grep -o 'now (s ' | wc -l)
+        awk -v crate="$crate" -v name="$name" -v module="$module" -v entry="$entry" -v seen="$seen" '
+            index($1, "crates/" crate "/src/") == 1 && $2 == name && (module == name || $1 == "crates/" crate "/src/" module ".rt") {
+                if ($3 != 1 || $4 != 0) print entry ": " $3 " ensures, " $4 " requires"
+                if ($5 != seen + 0) print entry ": " $5 " buffers lent to be written, the lemma sees " seen
             }
         ' "$dir/heads"
     done < "$dir/entries"
@@ -140,7 +143,7 @@ comm -13 "$dir/entries" "$dir/rows" | uniq > "$dir/extra"
 uniq -d "$dir/rows" >> "$dir/extra"
 check "rows without an entry, or twice" "$dir/extra"
 unpromised > "$dir/unpromised"
-check "entries without one ensures, or with a requires" "$dir/unpromised"
+check "entries without one ensures, with a requires, or with a buffer that the lemma does not see" "$dir/unpromised"
 lacking > "$dir/lacking"
 check "rows that lack something" "$dir/lacking"
 for page in PROMISES READING TRACE; do

@@ -54,7 +54,7 @@ abbrev pub controllerHeard : ReadHead → Asked
 controllerHeard (read-head.Refused n) = Refused n
 controllerHeard (read-head.Is h) = controllerTakes h
 
--- with the message of the packet in; 16 spaces where none is taken in
+-- with the message of the packet in, 16 zero bytes of one that is refused; 16 spaces where none is taken in
 abbrev pub controllerHears : ReadPacket → Request
 controllerHears p = record { asked = controllerHeard (p .head); message = p .message }
 

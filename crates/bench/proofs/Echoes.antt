@@ -30,7 +30,8 @@ use Rattle.bench.specs.Means.{benchBack}
 use Rattle.bench.specs.Promise.{Result, benchTold, benchStep}
 use Rattle.bench.specs.Running.{recordsOf, played, lines, limitOf, listLines}
 use Rattle.bench.specs.declared.Action.{Action}
-use Rattle.bench.proofs.Orders.{out, back, asRules, step-of}
+use Rattle.bench.specs.Orders.{asRules}
+use Rattle.bench.proofs.Orders.{out, back, step-of}
 use Rattle.bench.proofs.runner.run.Kinds as run-kinds
 use Rattle.bench.proofs.runner.run.Reads as run
 
@@ -96,11 +97,19 @@ two-lines =
 
 -- of two puts with room for two lines, the second line says 06; a runner that says of it what it said of the first does not meet the promise
 module _ (κs : Lfts 2) (a : Dens κs run-kinds.ps) (x : ℕ) (s : AtExit (endedOf 2 run-kinds.ps run-kinds.r) κs) (two : now (a .0) ≡ put ++ put) (room : length (now (a .1 .0)) ≡ 54) (meets : run.Post κs a x s) where
+  written-so : now (s .1 .0) ≡ (lineBytes 1 0x50 Nothing spaces ++ (lineBytes 2 0x50 (Refused 6) spaces ++ [])) ++ drop (length (listLines 2 (put ++ put))) (now (a .1 .0))
+  unfolding limitOf if_then_else_
+  written-so =
+      meets .whole
+      ∙ (λ i. listLines (limitOf (room i)) (two i) ++ drop (length (listLines (limitOf (room i)) (two i))) (now (a .1 .0)))
+      ∙ ap (λ (l : List ℕ). l ++ drop (length (listLines 2 (put ++ put))) (now (a .1 .0))) two-lines
+
   pub works-the-first-echoes-the-rest : now (s .1 .0) ≡ lineBytes 1 0x50 Nothing spaces ++ (lineBytes 2 0x50 Nothing spaces ++ []) → ⊥
-  unfolding lineBytes decimals limitOf if_then_else_
+  unfolding lineBytes decimals
   works-the-first-echoes-the-rest e =
-      let all = listLines (limitOf (length (now (a .1 .0)))) (now (a .0)) in
-      let same : all ≡ lineBytes 1 0x50 Nothing spaces ++ (lineBytes 2 0x50 (Refused 6) spaces ++ []) = (λ i. listLines (limitOf (room i)) (two i)) ∙ two-lines in
-      let shown : now (s .1 .0) ≡ (lineBytes 1 0x50 Nothing spaces ++ (lineBytes 2 0x50 (Refused 6) spaces ++ [])) ++ drop (length all) (now (a .1 .0)) = meets .whole ∙ ap (λ (l : List ℕ). l ++ drop (length all) (now (a .1 .0))) same in
-      let byte : _≡_ {A = ℕ} 0x2D 0x30 = ap (λ (l : List ℕ). getD l 34 0) (sym e ∙ shown) in
-      omega (arith, byte)
+      let byte : _≡_ {A = ℕ} 0x2D 0x30 = ap (λ (l : List ℕ). getD l 34 0) (sym e ∙ written-so) in omega (arith, byte)
+
+  -- nor does one that copies the record itself
+  pub copies-the-rest : (rest : List ℕ) → now (s .1 .0) ≡ lineBytes 1 0x50 Nothing spaces ++ (put ++ rest) → ⊥
+  unfolding lineBytes decimals
+  copies-the-rest rest e = let byte : _≡_ {A = ℕ} 0x50 0x30 = ap (λ (l : List ℕ). getD l 27 0) (sym e ∙ written-so) in omega (arith, byte)

@@ -21,7 +21,6 @@ use Rattle.protocol.specs.Relabel.{in-report, in-bench, in-outcome}
 use Rattle.protocol.specs.Log.{Log, Event, put-count, Right}
 use Rattle.protocol.specs.Plain.{Plain}
 use Rattle.protocol.proofs.Plain.{right-plain}
-use Rattle.protocol.specs.Judge.{Labelled}
 use Rattle.protocol.specs.Demand3.{row, write, labelled-step, row-of, written, unnumbered, shown, held-label}
 use Rattle.protocol.specs.Demand3 as protocol
 use Rattle.protocol.specs.WellFormed.{Well-formed}
@@ -34,7 +33,7 @@ use Rattle.channels.specs.Packets.{toControllerBytes, toConsoleBytes}
 use Rattle.channels.specs.Table.{channel}
 use Rattle.bench.specs.Means.{benchOk, benchBack}
 use Rattle.bench.specs.Promise.{Result, benchRefused, benchTold, benchStep, benchFresh, freshRules}
-use Rattle.bench.specs.Orders.{outcomes, freshOutcomes, shownBy, allShown, OrdersRight, leaves}
+use Rattle.bench.specs.Orders.{asRules, Labels, Rows, rowsFrom, rowsOf, outcomes, freshOutcomes, shownBy, allShown, OrdersRight, leaves}
 use Rattle.bench.specs.declared.Action.{Action}
 use Rattle.bench.specs.declared.Outcome.{Outcome}
 use Rattle.bench.proofs.Standing.{stands-ok, stands-for}
@@ -46,9 +45,6 @@ out b = channel toControllerBytes (b .toController)
 
 abbrev pub back : rules.Bench ℕ (List ℕ) → List ℕ
 back b = channel toConsoleBytes (b .toConsole)
-
-abbrev pub asRules : Letter → Action → rules.Action (List ℕ)
-asRules l a = rules.action l (a .place) (a .copies) (a .message)
 
 -- where the rules' bench stands, the promise's step is the rules' step
 pub step-of : (b : rules.Bench ℕ (List ℕ)) → Well-formed counted isMessage b → (a : Action) (l : Letter) → letter (a .letter) ≡ some l
@@ -78,9 +74,6 @@ same-shown a l e (ends.refused n) = refl
 
 -- ## The log: a letter that is no action leaves no row
 
-abbrev Labels : Type 0
-Labels = rules.Bench ℕ (Labelled (List ℕ))
-
 abbrev actionsFrom : Option Letter → Action → List (rules.Action (List ℕ)) → List (rules.Action (List ℕ))
 actionsFrom none a l = l
 actionsFrom (some x) a l = asRules x a ∷ l
@@ -89,20 +82,6 @@ actionsFrom (some x) a l = asRules x a ∷ l
 unfoldable actionsIn : List Action → List (rules.Action (List ℕ))
 actionsIn [] = []
 actionsIn (a ∷ l) = actionsFrom (letter (a .letter)) a (actionsIn l)
-
-abbrev Rows : Type 0
-Rows = List (Option (Event (List ℕ)))
-
--- the row of one action, and the rows after it
-abbrev rowsFrom : Option Letter → Action → Log (List ℕ) → Labels → (Log (List ℕ) → Labels → Rows) → Rows
-rowsFrom none a past b more = none ∷ more past b
-rowsFrom (some x) a past b more =
-    row-of counted isMessage past b (asRules x a)
-    ∷ more (write (row-of counted isMessage past b (asRules x a)) past) (labelled-step counted isMessage past b (asRules x a) .after)
-
-unfoldable rowsOf : Log (List ℕ) → Labels → List Action → Rows
-rowsOf past b [] = []
-rowsOf past b (a ∷ l) = rowsFrom (letter (a .letter)) a past b (λ p c. rowsOf p c l)
 
 -- the log is that of the rules' run
 same-log : (past : Log (List ℕ)) (b : Labels) (l : List Action) → written (rowsOf past b l) past ≡ written (protocol.rows counted isMessage past b (actionsIn l)) past
@@ -167,14 +146,13 @@ module _ (j : J) (i : I) (out₀ back₀ : List ℕ) (p : j .0 < 2 ^ 32) (q : i 
   unfolding freshOutcomes benchTold rules.fresh
   orders-right =
       record {
-        rows = rowsOf [] b l;
         right = subst Right (sym (same-log [] b l)) (demand3-messages (j .0) (i .0) (actionsIn l) .right);
         own = same-shows [] b l fresh-ok ∙ ap (λ (r : Result). allShown l (outcomes (r .outcome .bench) (r .out) (r .back) l)) (sym fresh-is);
       }
 
   -- in plain words
-  pub orders-plain : Plain (written (orders-right .rows) [])
-  orders-plain = right-plain (written (orders-right .rows) []) (orders-right .right)
+  pub orders-plain : Plain (written (rowsOf [] b l) [])
+  orders-plain = right-plain (written (rowsOf [] b l) []) (orders-right .right)
 
 -- ## The step does on any well-formed bench what the rules do, so each starred check holds of it
 
@@ -182,14 +160,21 @@ module _ (j : J) (i : I) (out₀ back₀ : List ℕ) (p : j .0 < 2 ^ 32) (q : i 
 abbrev pub coded : rules.Action (List ℕ) → Action
 coded a = record { letter = line (a .letter) .byte; place = a .place; copies = a .copies; message = a .message }
 
+-- what is told: the report and the 16 cells beside it
+abbrev pub told : Outcome → Report × List ℕ
+told o = (o .report, o .message)
+
+abbrev pub toldOf : ends.Report (List ℕ) → Report × List ℕ
+toldOf r = (reportBack r, delivered r)
+
 pub reports-are : (b : rules.Bench ℕ (List ℕ)) → Well-formed counted isMessage b → (l : List (rules.Action (List ℕ)))
-    → map (λ (o : Outcome). o .report) (outcomes (benchBack b) (out b) (back b) (map coded l)) ≡ map reportBack (rules.reports counted isMessage b l)
+    → map told (outcomes (benchBack b) (out b) (back b) (map coded l)) ≡ map toldOf (rules.reports counted isMessage b l)
 unfolding outcomes rules.reports benchTold
 reports-are b w [] = refl
 reports-are b w (a ∷ l) =
     let o = rules.step counted isMessage b a in
-    ap (λ (r : Result). r .outcome .report ∷ map (λ (x : Outcome). x .report) (outcomes (r .outcome .bench) (r .out) (r .back) (map coded l))) (step-of b w (coded a) (a .letter) (letter-of (a .letter)))
-    ∙ ap (λ (rs : List Report). reportBack (o .report) ∷ rs) (reports-are (o .after) (step-well-formed counted counted-lawful isMessage b a w) l)
+    ap (λ (r : Result). told (r .outcome) ∷ map told (outcomes (r .outcome .bench) (r .out) (r .back) (map coded l))) (step-of b w (coded a) (a .letter) (letter-of (a .letter)))
+    ∙ ap (λ (rs : List (Report × List ℕ)). toldOf (o .report) ∷ rs) (reports-are (o .after) (step-well-formed counted counted-lawful isMessage b a w) l)
 
 pub leaves-are : (b : rules.Bench ℕ (List ℕ)) → Well-formed counted isMessage b → (l : List (rules.Action (List ℕ)))
     → let c = rules.run counted isMessage b l in leaves (benchBack b) (out b) (back b) (map coded l) ≡ (benchBack c, out c, back c)

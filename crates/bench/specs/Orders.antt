@@ -5,9 +5,14 @@ use mathlib.Core.Option.{Option, none, some, Option·map}
 use mathlib.Core.List.{List, [], _∷_, map}
 use Rattle.wire.specs.declared.I.{I}
 use Rattle.wire.specs.declared.J.{J}
+use Rattle.ground.specs.Cell.{isMessage}
+use Rattle.protocol.specs.Supply.{counted}
 use Rattle.protocol.specs.Letters.{Letter, letter}
-use Rattle.protocol.specs.Log.{Event, Delivered, AnsweredOK, AnsweredLost, Right}
-use Rattle.protocol.specs.Demand3.{acted, written, unnumbered}
+use Rattle.protocol.specs.Bench as rules
+use Rattle.protocol.specs.Bench.{fresh}
+use Rattle.protocol.specs.Judge.{Labelled}
+use Rattle.protocol.specs.Log.{Log, Event, Delivered, AnsweredOK, AnsweredLost, Right}
+use Rattle.protocol.specs.Demand3.{acted, write, labelled-step, row-of, written, unnumbered}
 use Rattle.ends.specs.declared.Report.{Report}
 use Rattle.ends.specs.declared.Report.the-variants as report
 use Rattle.bench.specs.Promise.{benchStep, benchFresh}
@@ -42,11 +47,32 @@ allShown [] os = []
 allShown (a ∷ l) [] = []
 allShown (a ∷ l) (o ∷ os) = shownBy a (o .report) (o .message) ∷ allShown l os
 
--- there is a log with the puts numbered that is right, and without the numbers its rows are what the step shows
+-- ## The log, with the puts numbered: the rules' run of the actions, each order with the number of its put beside its cells
+
+abbrev pub asRules : Letter → Action → rules.Action (List ℕ)
+asRules l a = rules.action l (a .place) (a .copies) (a .message)
+
+abbrev pub Labels : Type 0
+Labels = rules.Bench ℕ (Labelled (List ℕ))
+
+abbrev pub Rows : Type 0
+Rows = List (Option (Event (List ℕ)))
+
+-- the row of one action, and the rows after it; a letter that is no action leaves none
+abbrev pub rowsFrom : Option Letter → Action → Log (List ℕ) → Labels → (Log (List ℕ) → Labels → Rows) → Rows
+rowsFrom none a past b more = none ∷ more past b
+rowsFrom (some x) a past b more =
+    row-of counted isMessage past b (asRules x a)
+    ∷ more (write (row-of counted isMessage past b (asRules x a)) past) (labelled-step counted isMessage past b (asRules x a) .after)
+
+unfoldable pub rowsOf : Log (List ℕ) → Labels → List Action → Rows
+rowsOf past b [] = []
+rowsOf past b (a ∷ l) = rowsFrom (letter (a .letter)) a past b (λ p c. rowsOf p c l)
+
+-- that log is right, and without the numbers its rows are what the step shows
 pub record OrdersRight (j : J) (i : I) (out back : List ℕ) (l : List Action) : Type 0 where
-  pub rows : List (Option (Event (List ℕ)))
-  pub right : Right (written rows [])
-  pub own : map (Option·map unnumbered) rows ≡ allShown l (freshOutcomes j i out back l)
+  pub right : Right (written (rowsOf [] (fresh (j .0) (i .0)) l) [])
+  pub own : map (Option·map unnumbered) (rowsOf [] (fresh (j .0) (i .0)) l) ≡ allShown l (freshOutcomes j i out back l)
 
 -- ## Where a list of actions leaves the bench and its tables
 

@@ -14,10 +14,11 @@ unfoldable pub first : List Rule → ℕ
 first [] = 0
 first (r ∷ rs) = if r .1 then r .0 else first rs
 
--- ## Bench and ends: document 01's one order for all rules that speak of an action
+-- ## Bench and ends: document 01's one order for all rules that speak of an action. 1, 2, 12, 13, 14 and 15 come before these, and before any of them
+-- is looked at: they are of the letter, of the bench or end, and of what is lent to an end run alone
 
 abbrev pub order : List ℕ
-order = 1 ∷ 2 ∷ 12 ∷ 13 ∷ 14 ∷ 15 ∷ 11 ∷ 10 ∷ 4 ∷ 5 ∷ 6 ∷ 8 ∷ 3 ∷ 7 ∷ 9 ∷ []
+order = 11 ∷ 10 ∷ 4 ∷ 5 ∷ 6 ∷ 8 ∷ 3 ∷ 7 ∷ 9 ∷ []
 
 -- does the rule of this number apply? Not where none of that number speaks of the action
 unfoldable pub applies : List Rule → ℕ → Bool

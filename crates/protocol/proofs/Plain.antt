@@ -210,6 +210,7 @@ module _ {M : Type 0} where
   pub right-plain : (l : Log M) → Right l → Plain l
   right-plain l r =
       record {
+        numbered = λ m n c d z y x q. later m n c d y x (row-fits l z (y ++ Put m c ∷ x) (Put n d) r q);
         own-cells = λ n c z x q. row-fits l z x (Delivered n c) r q .1 .its-own-put;
         in-order = λ m n c d z y x q. row-fits l z (y ++ Delivered m c ∷ x) (Delivered n d) r q .1 .in-order m c (there (Delivered m c) y x);
         once = λ n e d z y x a b q. twice n e d y x a b (row-fits l z (y ++ d ∷ x) e r q);
@@ -219,6 +220,9 @@ module _ {M : Type 0} where
         lost-is-final = λ n c z y x q. row-fits l z (y ++ AnsweredLost n ∷ x) (Delivered n c) r q .1 .not-lost (there (AnsweredLost n) y x);
       }
     where
+      later : (m n : ℕ) (c d : M) (y x : Log M) → Right (y ++ Put m c ∷ x) × Fits (y ++ Put m c ∷ x) (Put n d) → m < n
+      later m n c d y x f = omega (arith, f .1 .counted, right-part y (Put m c ∷ x) (f .0) .1 .counted, more-puts y (Put m c ∷ x))
+
       twice : (n : ℕ) (e d : Event M) (y x : Log M) → Answer n e → Answer n d → Right (y ++ d ∷ x) × Fits (y ++ d ∷ x) e → ⊥
       twice n e d y x a b f =
           let h = right-part y (d ∷ x) (f .0) in

@@ -81,7 +81,7 @@ ControllerTurn M = Turn M ControllerMode ToConsole
 abbrev pub turn : {M Mode Packet : Type 0} → Bool → Mode → Report M → Option Packet → Turn M Mode Packet
 turn took mode report sent = record { took = took; mode = mode; report = report; sent = sent }
 
--- nothing changes: the packet goes out, or none
+-- nothing is taken and nothing reported: the mode then, and the packet that goes out, or none
 abbrev pub stays : {M Mode Packet : Type 0} → Mode → Option Packet → Turn M Mode Packet
 stays mode sent = turn false mode nothing sent
 

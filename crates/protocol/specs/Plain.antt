@@ -31,6 +31,8 @@ module _ {M : Type 0} where
     pub was-up : T (controller-up (since ++ Put n cells ∷ before))
 
   pub record Plain (l : Log M) : Type 0 where
+    -- a put's number tells its place among the puts
+    pub numbered : (m n : ℕ) (c d : M) (z y x : Log M) → l ≡ z ++ Put n d ∷ (y ++ Put m c ∷ x) → m < n
     -- an order is delivered with its own cells, after its put
     pub own-cells : (n : ℕ) (c : M) (z x : Log M) → l ≡ z ++ Delivered n c ∷ x → In (Put n c) x
     -- orders are delivered in the order of their puts, each at most once

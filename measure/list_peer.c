@@ -5,6 +5,8 @@
 #include <string.h>
 #include <unistd.h>
 
+#include "numbers.h"
+
 enum { RECORD = 21, LINE = 27, MOST = 9999, PLACES = 64, PACKET = 32, CELLS = 16 };
 enum { NEEDI = 1, OFFER, DATA, OK, LOST, DONE };
 enum { IDLE, NEED_I, SEND, ACCEPT = NEED_I, ACK = SEND };
@@ -27,17 +29,6 @@ static struct {
 } controller;
 
 static struct channel out, back;
-
-static inline uint32_t number(const uint8_t *p) {
-    return (uint32_t)p[0] << 24 | (uint32_t)p[1] << 16 | (uint32_t)p[2] << 8 | p[3];
-}
-
-static inline void put_number(uint8_t *p, uint32_t n) {
-    p[0] = (uint8_t)(n >> 24);
-    p[1] = (uint8_t)(n >> 16);
-    p[2] = (uint8_t)(n >> 8);
-    p[3] = (uint8_t)n;
-}
 
 static void send(struct channel *c, unsigned copies, uint8_t kind, uint32_t first, uint32_t second, const uint8_t *message) {
     static const uint8_t head[8] = {'H', 'S', 'L', 0, 1, 0, 0, 0};

@@ -3,18 +3,8 @@
  * the peer of the measure.
  */
 #include "nooseless.h"
+#include "numbers.h"
 #include "peer.h"
-
-static inline uint32_t number(const uint8_t *p) {
-    return (uint32_t)p[0] << 24 | (uint32_t)p[1] << 16 | (uint32_t)p[2] << 8 | p[3];
-}
-
-static inline void put_number(uint8_t *p, uint32_t n) {
-    p[0] = (uint8_t)(n >> 24);
-    p[1] = (uint8_t)(n >> 16);
-    p[2] = (uint8_t)(n >> 8);
-    p[3] = (uint8_t)n;
-}
 
 static inline int all_are(const uint8_t *p, uint8_t b) {
     for (int i = 0; i < NOOSELESS_MESSAGE; i++)

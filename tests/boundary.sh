@@ -7,18 +7,7 @@ if [ "$(uname -m)" != x86_64 ]; then
     echo "0 passed, 0 failed"
     exit 0
 fi
-passed=0
-failed=0
-stage() {
-    name=$1
-    shift
-    if "$@"; then
-        passed=$((passed + 1))
-    else
-        echo "boundary: $name failed"
-        failed=$((failed + 1))
-    fi
-}
+. tests/stages.inc
 program=target/boundary
 . second/names.sh
 sources=tests/boundary/boundary.c
@@ -30,5 +19,4 @@ stage build "${CC:-cc}" -std=c11 -O2 -Wall -Wextra -Werror -Itarget/lib -o "$pro
 stage comparison "$program" "${1:-4000000}" "${2:-1}"
 stage "build of the stack's measure" "${CC:-cc}" -std=c11 -O2 -Wall -Wextra -Werror -Itarget/lib -Wl,-z,now -o target/stack tests/boundary/stack.c target/lib/libnooseless.a
 stage stack target/stack 200000 1
-echo "$passed passed, $failed failed"
-[ "$failed" -eq 0 ]
+told

@@ -6,16 +6,7 @@ set -u
 if [ ! -x target/bin/list ]; then
     rt check list > target/compare.log 2>&1 || tail -n 5 target/compare.log
 fi
-passed=0
-failed=0
-compare() {
-    if env "$@" target/bin/list; then
-        passed=$((passed + 1))
-    else
-        failed=$((failed + 1))
-    fi
-}
-compare RECORDS=400 second/compare.sh 0 20
-compare second/compare.sh 21 60
-echo "$passed passed, $failed failed"
-[ "$failed" -eq 0 ]
+. tests/stages.inc
+stage "the mutants' lists" env RECORDS=400 second/compare.sh 0 20 target/bin/list
+stage "more lists" second/compare.sh 21 60 target/bin/list
+told

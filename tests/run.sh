@@ -7,20 +7,7 @@ dir=$(mktemp -d) || exit 1
 trap 'rm -rf "$dir"' EXIT
 listing=crates/list/stdin
 lines=crates/list/stdout
-passed=0
-failed=0
-
-# check NAME COMMAND...
-check() {
-    name=$1
-    shift
-    if "$@"; then
-        passed=$((passed + 1))
-    else
-        echo "run: $name failed"
-        failed=$((failed + 1))
-    fi
-}
+. tests/stages.inc
 
 prints() { # FILE COMMAND...: the command prints the file, says nothing else and ends with 0
     want=$1
@@ -101,38 +88,37 @@ while [ "$k" -lt 22 ]; do
     k=$((k + 1))
 done
 
-check "the listing from a file" prints "$lines" ./run "$listing"
-check "the listing from standard input" prints "$lines" fed
-check "the listing byte by byte" prints "$lines" bytewise
-check "the listing in pieces" prints "$lines" in_pieces
-check "a call from another folder" prints "$lines" from_elsewhere
-check "an empty list" prints "$dir/empty" ./run "$dir/empty"
-check "a list cut in a record" prints "$dir/cut.lines" ./run "$dir/cut"
-check "an unknown option" refuses --wrong
-check "two files" refuses "$listing" "$listing"
-check "an option after the file" refuses "$listing" --explain
-check "a file that isn't there" refuses "$dir/none"
-check "a folder" refuses crates
-check "an empty list explained" prints "$dir/empty" ./run --explain "$dir/empty"
-check "the explained list" prints crates/explain/stdout ./run --explain crates/explain/stdin
-check "the explained full channel" explains "$dir/full"
-check "its sentence" grep -q '^  refused 09: copies to be added exceed the free places of the target channel$' "$dir/explained"
+stage "the listing from a file" prints "$lines" ./run "$listing"
+stage "the listing from standard input" prints "$lines" fed
+stage "the listing byte by byte" prints "$lines" bytewise
+stage "the listing in pieces" prints "$lines" in_pieces
+stage "a call from another folder" prints "$lines" from_elsewhere
+stage "an empty list" prints "$dir/empty" ./run "$dir/empty"
+stage "a list cut in a record" prints "$dir/cut.lines" ./run "$dir/cut"
+stage "an unknown option" refuses --wrong
+stage "two files" refuses "$listing" "$listing"
+stage "an option after the file" refuses "$listing" --explain
+stage "a file that isn't there" refuses "$dir/none"
+stage "a folder" refuses crates
+stage "an empty list explained" prints "$dir/empty" ./run --explain "$dir/empty"
+stage "the explained list" prints crates/explain/stdout ./run --explain crates/explain/stdin
+stage "the explained full channel" explains "$dir/full"
+stage "its sentence" grep -q '^  refused 09: copies to be added exceed the free places of the target channel$' "$dir/explained"
 
 mock
-check "the first call builds" mocked 1 0
-check "what was built is played" cmp "$listing" "$dir/out"
-check "the second call doesn't build" mocked 1 0
+stage "the first call builds" mocked 1 0
+stage "what was built is played" cmp "$listing" "$dir/out"
+stage "the second call doesn't build" mocked 1 0
 touch -t 203501010000 "$dir/mock/crates/source"
 touch "$dir/mock/broken"
-check "a source has changed and can't be built" mocked 2 1
-check "nothing is printed then" test ! -s "$dir/out"
-check "nor is the old program played later" mocked 3 1
+stage "a source has changed and can't be built" mocked 2 1
+stage "nothing is printed then" test ! -s "$dir/out"
+stage "nor is the old program played later" mocked 3 1
 
 if [ -x target/second/gen ]; then
     for seed in 1 2 3 4 5 6; do
         target/second/gen "$seed" 300 >"$dir/seed"
-        check "the explained list of seed $seed" explains "$dir/seed"
+        stage "the explained list of seed $seed" explains "$dir/seed"
     done
 fi
-echo "$passed passed, $failed failed"
-[ "$failed" -eq 0 ]
+told

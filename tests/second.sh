@@ -2,22 +2,10 @@
 # The second program, written from document 01 alone: it builds without a warning, its own tests and hand-made lists pass, and
 # every one-rule mutant of it is told apart as its table says.
 set -u
-passed=0
-failed=0
-stage() {
-    name=$1
-    shift
-    if "$@"; then
-        passed=$((passed + 1))
-    else
-        echo "second: $name failed"
-        failed=$((failed + 1))
-    fi
-}
+. tests/stages.inc
 dir=target/second
 stage build env CFLAGS="${CFLAGS:--std=c11 -O2 -Wall -Wextra -Wpedantic -Werror}" sh second/build.sh "$dir"
 stage tests "$dir/tests"
 stage corners "$dir/corners" check second/corners/*.txt
 stage mutants sh second/mutants.sh "$dir"
-echo "$passed passed, $failed failed"
-[ "$failed" -eq 0 ]
+told

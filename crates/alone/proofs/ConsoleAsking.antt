@@ -19,6 +19,7 @@ use Rattle.letters.specs.declared.Letter.{Letter}
 use Rattle.letters.specs.declared.Letter.the-variants as letters
 use Rattle.letters.specs.declared.Found.{Found}
 use Rattle.letters.specs.declared.Found.the-variants as found
+use Rattle.ends.specs.Packets.{headForConsole}
 use Rattle.ends.specs.declared.console.Act.{Act}
 use Rattle.ends.specs.declared.console.Act.the-variants as act
 use Rattle.alone.specs.declared.console.Asked.{Asked}
@@ -38,7 +39,7 @@ unfolding lent if_then_else_
 was-lent n x a e =
     by-test (eqb n 32) (λ t. (eqb-true n 32 t, rw t at e)) (λ f. let q : Refused 12 ≡ Is a = rw f at e in nothing-asked 12 a q)
 
-ready-takes : (h : Head) (n : ℕ) (a : Act) → numbered h ≡ true → n ≡ 32 → consoleTakes h ≡ Is a → Ready a n
+ready-takes : (h : Head) (n : ℕ) (a : Act) → numbered h ≡ true → n ≡ 32 → consoleTakes (headForConsole h) ≡ Is a → Ready a n
 ready-takes (head.NeedI j) n a g l e = nothing-asked 15 a e
 ready-takes (head.Offer j i) n a g l e = same-act _ a n e (l, (first-above (head.Offer j i) g, second-above j i g))
 ready-takes (head.Data i) n a g l e = nothing-asked 15 a e

@@ -26,11 +26,11 @@ use Rattle.ends.proofs.Telling.{report-told, fields-told}
 use Rattle.alone.specs.Alone.{Writable, replied}
 use Rattle.alone.specs.ConsoleAlone.{consoleTold}
 use Rattle.ends.specs.InRules.{kept, consoleActed}
-use Rattle.alone.specs.ConsoleWithin.{toControllerSent}
-use Rattle.ends.specs.Packets.{toControllerPacket}
+use Rattle.ends.specs.Packets.{toControllerPacket, toControllerSent}
 
 -- what is sent to the controller and can be written is written
 pub written-to-controller : {x : List ℕ} {s : ForController} {p : ToController} {q : Packet} (m out : List ℕ) → s ≡ for-controller.Packet p → q ≡ toControllerPacket (in-packet (λ _. m) (toController p)) → Writable (toControllerSent s m) (length out) → x ≡ packetWritten out q → x ≡ replied (toControllerSent s m) out
+unfolding toControllerSent
 written-to-controller m out f g w e = rw f (written out _ (rw f at w) (rw g at e))
 
 absent-told : (k : List ℕ) (s : Option (rules.ToController Beside)) → rules.absent s ≡ rules.absent (Option·map (in-packet (λ _. k)) s)
@@ -42,6 +42,7 @@ absent-told k (some p) = refl
 told : (d : rules.ConsoleActed ℕ Beside) (k reply : List ℕ)
     → record { outcome = record { report = acted d .report; sent = not (rules.absent (forController (acted d .sent))); console = consoleFields (acted d .after) k }; reply = replied (toControllerSent (acted d .sent) k) reply }
     ≡ consoleTold (in-console-acted (λ _. k) d) reply
+unfolding toControllerSent
 told d k reply =
     λ i.
     record {
@@ -65,6 +66,7 @@ module _ {k : List ℕ} {done : Acted} (e : End) (held : List ℕ) (a : Act) (m 
       (λ i. record { outcome = record { report = g i .report; sent = bs i; console = vs i }; reply = rs i }) ∙ told d (kept a m held) reply
 
   pub writable : Writable (Option·map toControllerPacket (consoleActed e held a m .sent)) (length reply) → Writable (toControllerSent (done .sent) k) (length reply)
+  unfolding toControllerSent
   writable w =
       let d = rules.console-acts counted (end e) (act a) in
       let same : toControllerSent (done .sent) k ≡ Option·map toControllerPacket (consoleActed e held a m .sent) =

@@ -20,6 +20,7 @@ use Rattle.letters.specs.declared.Letter.{Letter}
 use Rattle.letters.specs.declared.Letter.the-variants as letters
 use Rattle.letters.specs.declared.Found.{Found}
 use Rattle.letters.specs.declared.Found.the-variants as found
+use Rattle.ends.specs.Packets.{headForController}
 use Rattle.ends.specs.declared.controller.Act.{Act}
 use Rattle.ends.specs.declared.controller.Act.the-variants as act
 use Rattle.alone.specs.declared.controller.Asked.the-variants.{Refused, Is}
@@ -39,7 +40,7 @@ unfolding lent if_then_else_
 was-lent n x a e =
     by-test (eqb n 32) (λ t. (eqb-true n 32 t, rw t at e)) (λ f. let q : Refused 12 ≡ Is a = rw f at e in nothing-asked 12 a q)
 
-ready-takes : (h : Head) (n : ℕ) (a : Act) → numbered h ≡ true → n ≡ 32 → controllerTakes h ≡ Is a → Ready a n
+ready-takes : (h : Head) (n : ℕ) (a : Act) → numbered h ≡ true → n ≡ 32 → controllerTakes (headForController h) ≡ Is a → Ready a n
 ready-takes (head.NeedI j) n a g l e = same-act _ a n e (l, first-above (head.NeedI j) g)
 ready-takes (head.Offer j i) n a g l e = nothing-asked 15 a e
 ready-takes (head.Data i) n a g l e = same-act _ a n e (l, (first-above (head.Data i) g, tt))

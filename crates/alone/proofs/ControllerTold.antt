@@ -27,17 +27,18 @@ use Rattle.ends.proofs.Telling.{report-told, delivered-told}
 use Rattle.alone.specs.Alone.{Writable, replied}
 use Rattle.alone.specs.ControllerAlone.{controllerTold}
 use Rattle.ends.specs.InRules.{deliveredBeside, controllerActed}
-use Rattle.alone.specs.ControllerWithin.{toConsoleSent}
-use Rattle.ends.specs.Packets.{toConsolePacket}
+use Rattle.ends.specs.Packets.{toConsolePacket, toConsoleSent}
 
 -- what is sent to the console and can be written is written
 pub written-to-console : {x : List ℕ} {s : ForConsole} {p : ToConsole} {q : Packet} (out : List ℕ) → s ≡ for-console.Packet p → q ≡ toConsolePacket (toConsole p) → Writable (toConsoleSent s) (length out) → x ≡ packetWritten out q → x ≡ replied (toConsoleSent s) out
+unfolding toConsoleSent
 written-to-console out f g w e = rw f (written out _ (rw f at w) (rw g at e))
 
 -- the acts of the rules at messages of one value, told with the message k beside them
 told : (d : rules.ControllerActed ℕ Beside) (k reply : List ℕ)
     → record { outcome = record { report = acted d .report; message = deliveredBeside (acted d .report) k; sent = not (rules.absent (forConsole (acted d .sent))); controller = controllerFields (acted d .after) }; reply = replied (toConsoleSent (acted d .sent)) reply }
     ≡ controllerTold (in-controller-acted (λ _. k) d) reply
+unfolding toConsoleSent
 told d k reply =
     λ i.
     record {
@@ -65,6 +66,7 @@ module _ {done : Acted} (e : End) (a : Act) (k reply : List ℕ) (g : done ≡ a
       ∙ ap (λ (x : rules.ControllerActed ℕ (List ℕ)). controllerTold x reply) (sym (nat-controller-acts (λ _. k) counted (end e) (act a)))
 
   pub writable : Writable (Option·map toConsolePacket (controllerActed e a k .sent)) (length reply) → Writable (toConsoleSent (done .sent)) (length reply)
+  unfolding toConsoleSent
   writable w =
       let d = rules.controller-acts counted (end e) (act a) in
       let same : toConsoleSent (done .sent) ≡ Option·map toConsolePacket (controllerActed e a k .sent) =

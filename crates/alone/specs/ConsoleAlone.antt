@@ -8,8 +8,6 @@ use lib.ListN.{length}
 use Rattle.ground.specs.Cell.{isMessage}
 use Rattle.wire.specs.Packet.{packetRead}
 use Rattle.wire.specs.declared.Packet.{Packet}
-use Rattle.wire.specs.declared.Head.{Head}
-use Rattle.wire.specs.declared.Head.the-variants as head
 use Rattle.wire.specs.declared.ReadHead.{ReadHead}
 use Rattle.wire.specs.declared.ReadHead.the-variants as read-head
 use Rattle.protocol.specs.Supply.{counted}
@@ -21,12 +19,12 @@ use Rattle.letters.specs.declared.Letter.{Letter}
 use Rattle.letters.specs.declared.Letter.the-variants as letters
 use Rattle.letters.specs.declared.Found.{Found}
 use Rattle.letters.specs.declared.Found.the-variants as found
-use Rattle.ends.specs.Packets.{toControllerPacket}
+use Rattle.ends.specs.Packets.{toControllerPacket, headForConsole}
 use Rattle.ends.specs.Means.{reportBack}
 use Rattle.ends.specs.Console as console
 use Rattle.ends.specs.Fields.{consoleOk}
 use Rattle.ends.specs.InRules.{consoleMeans, consoleBack}
-use Rattle.ends.specs.declared.ToConsole.the-variants as down
+use Rattle.ends.specs.declared.ForConsole.{ForConsole}
 use Rattle.ends.specs.declared.ForConsole.the-variants as for-console
 use Rattle.ends.specs.declared.console.Act.{Act}
 use Rattle.ends.specs.declared.console.Act.the-variants as act
@@ -40,17 +38,13 @@ use Rattle.alone.specs.declared.console.ConsoleOutcome.{ConsoleOutcome}
 -- ## What a letter asks of a console, or the refusal: 1; 12 of the reply buffer, which Q D S are lent; 12 to 15 of the packet in, which S takes
 
 -- a packet in whose kind goes the other way is 15
-abbrev pub consoleTakes : Head → Asked
-consoleTakes (head.NeedI j) = Refused 15
-consoleTakes (head.Offer j i) = Is (act.Take (for-console.Packet (down.Offer j i)))
-consoleTakes (head.Data i) = Refused 15
-consoleTakes (head.Ok i) = Is (act.Take (for-console.Packet (down.Ok i)))
-consoleTakes (head.Lost i) = Is (act.Take (for-console.Packet (down.Lost i)))
-consoleTakes (head.Done i) = Refused 15
+abbrev pub consoleTakes : ForConsole → Asked
+consoleTakes for-console.Nothing = Refused 15
+consoleTakes (for-console.Packet p) = Is (act.Take (for-console.Packet p))
 
 abbrev pub consoleHears : ReadHead → Asked
 consoleHears (read-head.Refused n) = Refused n
-consoleHears (read-head.Is h) = consoleTakes h
+consoleHears (read-head.Is h) = consoleTakes (headForConsole h)
 
 -- n is the length of the reply buffer
 abbrev pub consoleAsks : Letter → ReadHead → ℕ → Asked

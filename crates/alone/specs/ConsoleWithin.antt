@@ -2,22 +2,12 @@
 use Prim.Native.Nat.{ℕ}
 use mathlib.Core.Path.{_≡_}
 use mathlib.Core.Bool.{Bool, true}
-use mathlib.Core.Option.{Option, Option·map}
-use mathlib.Core.List.{List}
-use Rattle.wire.specs.declared.Packet.{Packet}
 use Rattle.protocol.specs.Lists.{Opt}
 use Rattle.protocol.specs.Bears.{ToConsole-bears}
-use Rattle.protocol.specs.Relabel.{in-packet}
-use Rattle.ends.specs.Packets.{toControllerPacket}
-use Rattle.ends.specs.Means.{forConsole, forController}
-use Rattle.ends.specs.declared.ForController.{ForController}
+use Rattle.ends.specs.Means.{forConsole}
 use Rattle.ends.specs.declared.console.Act.{Act}
 use Rattle.ends.specs.declared.console.Act.the-variants as act
 use Rattle.alone.specs.Alone.{Above}
-
--- what is sent, with the message of data beside it
-abbrev pub toControllerSent : ForController → List ℕ → Option Packet
-toControllerSent sent m = Option·map toControllerPacket (Option·map (in-packet (λ _. m)) (forController sent))
 
 -- what a letter that is not refused leaves to be relied on: the reply buffer, where the act may send, and the numbers of the packet in
 abbrev pub Ready : Act → ℕ → Type 0

@@ -8,8 +8,6 @@ use lib.ListN.{length}
 use Rattle.ground.specs.Cell.{spaces}
 use Rattle.wire.specs.Packet.{packetRead}
 use Rattle.wire.specs.declared.Packet.{Packet}
-use Rattle.wire.specs.declared.Head.{Head}
-use Rattle.wire.specs.declared.Head.the-variants as head
 use Rattle.wire.specs.declared.ReadHead.{ReadHead}
 use Rattle.wire.specs.declared.ReadHead.the-variants as read-head
 use Rattle.wire.specs.declared.ReadPacket.{ReadPacket}
@@ -22,12 +20,12 @@ use Rattle.letters.specs.declared.Letter.{Letter}
 use Rattle.letters.specs.declared.Letter.the-variants as letters
 use Rattle.letters.specs.declared.Found.{Found}
 use Rattle.letters.specs.declared.Found.the-variants as found
-use Rattle.ends.specs.Packets.{toConsolePacket}
+use Rattle.ends.specs.Packets.{toConsolePacket, headForController}
 use Rattle.ends.specs.Means.{reportBack}
 use Rattle.ends.specs.Controller as controller
 use Rattle.ends.specs.Fields.{controllerOk}
 use Rattle.ends.specs.InRules.{controllerMeans, controllerBack, delivered}
-use Rattle.ends.specs.declared.ToController.the-variants as up
+use Rattle.ends.specs.declared.ForController.{ForController}
 use Rattle.ends.specs.declared.ForController.the-variants as for-controller
 use Rattle.ends.specs.declared.controller.Act.{Act}
 use Rattle.ends.specs.declared.controller.Act.the-variants as act
@@ -42,17 +40,13 @@ use Rattle.alone.specs.declared.controller.ControllerOutcome.{Controller
 -- ## What a letter asks of a controller, or the refusal: 1; 12 of the reply buffer, which O K R are lent; 12 to 15 of the packet in, which R takes
 
 -- a packet in whose kind goes the other way is 15
-abbrev pub controllerTakes : Head → Asked
-controllerTakes (head.NeedI j) = Is (act.Take (for-controller.Packet (up.NeedI j)))
-controllerTakes (head.Offer j i) = Refused 15
-controllerTakes (head.Data i) = Is (act.Take (for-controller.Packet (up.Data i)))
-controllerTakes (head.Ok i) = Refused 15
-controllerTakes (head.Lost i) = Refused 15
-controllerTakes (head.Done i) = Is (act.Take (for-controller.Packet (up.Done i)))
+abbrev pub controllerTakes : ForController → Asked
+controllerTakes for-controller.Nothing = Refused 15
+controllerTakes (for-controller.Packet p) = Is (act.Take (for-controller.Packet p))
 
 abbrev pub controllerHeard : ReadHead → Asked
 controllerHeard (read-head.Refused n) = Refused n
-controllerHeard (read-head.Is h) = controllerTakes h
+controllerHeard (read-head.Is h) = controllerTakes (headForController h)
 
 -- with the message of the packet in, 16 zero bytes of one that is refused; 16 spaces where none is taken in
 abbrev pub controllerHears : ReadPacket → Request

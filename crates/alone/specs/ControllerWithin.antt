@@ -1,20 +1,12 @@
 -- What the private functions of a controller run alone promise each other. Nothing of it stands in the entry's promise. Assumes nothing.
 use Prim.Native.Nat.{ℕ}
 use mathlib.Core.Path.{_≡_}
-use mathlib.Core.Option.{Option, Option·map}
-use Rattle.wire.specs.declared.Packet.{Packet}
 use Rattle.protocol.specs.Lists.{Opt}
 use Rattle.protocol.specs.Bears.{ToController-bears, Any}
-use Rattle.ends.specs.Packets.{toConsolePacket}
-use Rattle.ends.specs.Means.{forController, forConsole}
-use Rattle.ends.specs.declared.ForConsole.{ForConsole}
+use Rattle.ends.specs.Means.{forController}
 use Rattle.ends.specs.declared.controller.Act.{Act}
 use Rattle.ends.specs.declared.controller.Act.the-variants as act
 use Rattle.alone.specs.Alone.{Above}
-
--- what is sent
-abbrev pub toConsoleSent : ForConsole → Option Packet
-toConsoleSent sent = Option·map toConsolePacket (forConsole sent)
 
 -- what a letter that is not refused leaves to be relied on: the reply buffer, where the act may send, and the numbers of the packet in
 abbrev pub Ready : Act → ℕ → Type 0

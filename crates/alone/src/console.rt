@@ -3,7 +3,7 @@ use crate::early;
 use ends::ForConsole;
 use ends::ForController;
 use ends::Report;
-use ends::ToConsole;
+use ends::beside::for_console;
 use ends::beside::to_controller;
 use ends::console::Act;
 use ends::console::End;
@@ -14,8 +14,6 @@ use ends::fields::console_was_read;
 use ends::fields::read_console;
 use letters::Found;
 use letters::Letter;
-use wire::Head;
-use wire::Packet;
 use wire::ReadHead;
 ghost use mathlib.Core.Path.{_≡_};
 ghost use mathlib.Core.Bool.{not, false};
@@ -30,8 +28,7 @@ ghost use Rattle.ends.specs.Fields.{consoleRead};
 ghost use Rattle.ends.specs.Means.{forController};
 ghost use Rattle.alone.specs.Alone.{Writable, replied, lent};
 ghost use Rattle.alone.specs.ConsoleAlone.{consoleTakes, consoleHears, consoleAsks, consoleAsked};
-ghost use Rattle.alone.specs.ConsoleWithin.{toControllerSent};
-ghost use Rattle.ends.specs.Packets.{toControllerPacket};
+ghost use Rattle.ends.specs.Packets.{toControllerPacket, toControllerSent};
 ghost use Rattle.alone.specs.ConsoleAlone.{consoleStepped, consoleTold, consoleAlone};
 ghost use Rattle.alone.specs.ConsoleWithin.{looked, Ready};
 ghost use Rattle.ends.specs.InRules.{kept, consoleActed};
@@ -47,26 +44,22 @@ pub struct ConsoleOutcome {
     pub console: Console,
 }
 
-fn takes(head: Head) -> Asked
-    ensures { λ r. ⌜ r ≡ consoleTakes head ⌝ }
+fn takes(came: ForConsole) -> Asked
+    ensures { λ r. ⌜ r ≡ consoleTakes came ⌝ }
 {
-    match head {
-        Head::NeedI(_) => Asked::Refused(15),
-        Head::Offer(j, i) => Asked::Is(Act::Take(ForConsole::Packet(ToConsole::Offer(j, i)))),
-        Head::Data(_) => Asked::Refused(15),
-        Head::Ok(i) => Asked::Is(Act::Take(ForConsole::Packet(ToConsole::Ok(i)))),
-        Head::Lost(i) => Asked::Is(Act::Take(ForConsole::Packet(ToConsole::Lost(i)))),
-        Head::Done(_) => Asked::Refused(15),
+    match came {
+        ForConsole::Nothing => Asked::Refused(15),
+        ForConsole::Packet(p) => Asked::Is(Act::Take(ForConsole::Packet(p))),
     }
 }
 
 fn hears(packet: &[u8]) -> Asked
     ensures { λ r. ⌜ r ≡ consoleHears (packetRead (now (packet .entry)) .head) ⌝ }
 {
-    let head = wire::read_packet(packet).head;
+    let head = wire::read_head(packet);
     match head {
         ReadHead::Refused(n) => Asked::Refused(n),
-        ReadHead::Is(h) => takes(h),
+        ReadHead::Is(h) => takes(for_console(h)),
     }
 }
 
@@ -144,7 +137,7 @@ fn is_good(a: Act, message: [u8; 16]) -> bool
     ensures { λ r. ⌜ r ≡ looked a (isMessage message) ⌝ }
 {
     match a {
-        Act::Put => ground::all_cells(&message),
+        Act::Put => ground::is_message(&message),
         Act::SendNeedI => true,
         Act::SendData => true,
         Act::Take(_) => true,

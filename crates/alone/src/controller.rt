@@ -3,8 +3,8 @@ use crate::early;
 use ends::ForConsole;
 use ends::ForController;
 use ends::Report;
-use ends::ToController;
 use ends::beside::delivers;
+use ends::beside::for_controller;
 use ends::beside::to_console;
 use ends::controller::Act;
 use ends::controller::End;
@@ -15,8 +15,6 @@ use ends::fields::controller_was_read;
 use ends::fields::read_controller;
 use letters::Found;
 use letters::Letter;
-use wire::Head;
-use wire::Packet;
 use wire::ReadHead;
 ghost use mathlib.Core.Path.{_≡_};
 ghost use mathlib.Core.Bool.{not, false};
@@ -31,8 +29,7 @@ ghost use Rattle.ends.specs.Fields.{controllerRead};
 ghost use Rattle.ends.specs.Means.{forConsole};
 ghost use Rattle.alone.specs.Alone.{Writable, replied, lent};
 ghost use Rattle.alone.specs.ControllerAlone.{bare, refusing, controllerTakes, controllerHears, controllerAsks, controllerAsked};
-ghost use Rattle.alone.specs.ControllerWithin.{toConsoleSent};
-ghost use Rattle.ends.specs.Packets.{toConsolePacket};
+ghost use Rattle.ends.specs.Packets.{toConsolePacket, toConsoleSent};
 ghost use Rattle.alone.specs.ControllerAlone.{controllerStepped, controllerTold, controllerAlone};
 ghost use Rattle.alone.specs.ControllerWithin.{Ready};
 ghost use Rattle.ends.specs.InRules.{controllerActed};
@@ -56,16 +53,12 @@ pub struct ControllerOutcome {
     pub controller: Controller,
 }
 
-fn takes(head: Head) -> Asked
-    ensures { λ r. ⌜ r ≡ controllerTakes head ⌝ }
+fn takes(came: ForController) -> Asked
+    ensures { λ r. ⌜ r ≡ controllerTakes came ⌝ }
 {
-    match head {
-        Head::NeedI(j) => Asked::Is(Act::Take(ForController::Packet(ToController::NeedI(j)))),
-        Head::Offer(_, _) => Asked::Refused(15),
-        Head::Data(i) => Asked::Is(Act::Take(ForController::Packet(ToController::Data(i)))),
-        Head::Ok(_) => Asked::Refused(15),
-        Head::Lost(_) => Asked::Refused(15),
-        Head::Done(i) => Asked::Is(Act::Take(ForController::Packet(ToController::Done(i)))),
+    match came {
+        ForController::Nothing => Asked::Refused(15),
+        ForController::Packet(p) => Asked::Is(Act::Take(ForController::Packet(p))),
     }
 }
 
@@ -81,7 +74,7 @@ fn hears(packet: &[u8]) -> Request
             message,
         },
         ReadHead::Is(h) => Request {
-            asked: takes(h),
+            asked: takes(for_controller(h)),
             message,
         },
     }

@@ -21,14 +21,14 @@ use Rattle.letters.specs.Lines.{letterMeans, lineOf}
 use Rattle.letters.specs.declared.Letter.{Letter}
 use Rattle.letters.specs.declared.Line.{Line}
 use Rattle.ends.specs.Means.{forConsole, forController}
-use Rattle.ends.specs.Packets.{toControllerPacket, toConsolePacket}
+use Rattle.ends.specs.Packets.{toControllerPacket, toConsolePacket, headForController, headForConsole, readForConsole}
 use Rattle.ends.specs.declared.console.Act as console-act
 use Rattle.ends.specs.declared.controller.Act as controller-act
 use Rattle.channels.specs.Packets.{toControllerBytes, toConsoleBytes}
 use Rattle.channels.specs.Table.{channel, packetAt}
 use Rattle.channels.proofs.Channel.{split, packet-at-is}
 use Rattle.channels.proofs.Packets.{to-controller-coded, to-console-coded, ToControllerOk, ToConsoleOk}
-use Rattle.bench.specs.Asking.{goesToConsole, goesToController, readToConsole, heard, backAt, outAt, requested}
+use Rattle.bench.specs.Asking.{heard, backAt, outAt, requested}
 use Rattle.bench.specs.Within.{Known, insideMeans, asksOf, Lined, OnConsole, OnController, OnLosing}
 use Rattle.bench.specs.declared.Action.{Action}
 use Rattle.bench.specs.declared.asks.Asked.{Asked}
@@ -50,7 +50,7 @@ beyond ps k h = none-at (rules.at ps k) (absent-is ps k ∙ le-leb (length ps) k
     none-at none e = refl
     none-at (some x) e = absurd (true≢false (sym e))
 
-console-own : (p : ends.ToConsole) → forConsole (goesToConsole (toConsolePacket p .head)) ≡ some p
+console-own : (p : ends.ToConsole) → forConsole (headForConsole (toConsolePacket p .head)) ≡ some p
 console-own (ends.offer j i) = refl
 console-own (ends.ok i) = refl
 console-own (ends.lost i) = refl
@@ -59,21 +59,21 @@ console-own (ends.lost i) = refl
 abbrev beside : Heard → Option (ends.ToController (List ℕ))
 beside h = Option·map (in-packet (λ _. h .message)) (forController (h .packet))
 
-controller-own : (p : ends.ToController (List ℕ)) → beside (record { packet = goesToController (toControllerPacket p .head); message = toControllerPacket p .message }) ≡ some p
+controller-own : (p : ends.ToController (List ℕ)) → beside (record { packet = headForController (toControllerPacket p .head); message = toControllerPacket p .message }) ≡ some p
 controller-own (ends.needI j) = refl
 controller-own (ends.order i m) = refl
 controller-own (ends.done i) = refl
 
-back-there : (ps : List ends.ToConsole) (k : ℕ) → All ToConsoleOk ps → k < length ps → forConsole (readToConsole (packetAt (channel toConsoleBytes ps) k .head)) ≡ rules.at ps k
+back-there : (ps : List ends.ToConsole) (k : ℕ) → All ToConsoleOk ps → k < length ps → forConsole (readForConsole (packetAt (channel toConsoleBytes ps) k .head)) ≡ rules.at ps k
 back-there ps k g h =
     let s = split ps k h in
-    ap (λ (r : ReadPacket). forConsole (readToConsole (r .head))) (packet-at-is to-console-coded ps k g (s .found)) ∙ console-own (s .it) ∙ sym (s .found)
+    ap (λ (r : ReadPacket). forConsole (readForConsole (r .head))) (packet-at-is to-console-coded ps k g (s .found)) ∙ console-own (s .it) ∙ sym (s .found)
 
 back-is : (ps : List ends.ToConsole) (t : List ℕ) (n k : ℕ) → Holds to-console-coded ps t n → forConsole (backAt t n k) ≡ rules.at ps k
 unfolding backAt if_then_else_
 back-is ps t n k h =
     by-test (ltb k n)
-    (λ y. rw y (ap (λ (x : List ℕ). forConsole (readToConsole (packetAt x k .head))) (h .table) ∙ back-there ps k (h .good) (subst (λ (x : ℕ). k < x) (h .number) (ltb-true k n y))))
+    (λ y. rw y (ap (λ (x : List ℕ). forConsole (readForConsole (packetAt x k .head))) (h .table) ∙ back-there ps k (h .good) (subst (λ (x : ℕ). k < x) (h .number) (ltb-true k n y))))
     (λ f. rw f (sym (beyond ps k (subst (λ (x : ℕ). x ≤ k) (h .number) (ltb-false k n f)))))
 
 out-there : (ps : List (ends.ToController (List ℕ))) (k : ℕ) → All ToControllerOk ps → k < length ps → beside (heard (packetAt (channel toControllerBytes ps) k)) ≡ rules.at ps k

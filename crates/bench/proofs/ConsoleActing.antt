@@ -22,14 +22,14 @@ use Rattle.protocol.proofs.WellFormed.{console-acts-ok, step-well-formed}
 use Rattle.letters.specs.Lines.{letterMeans}
 use Rattle.letters.specs.declared.Line.{Line}
 use Rattle.ends.specs.InRules.{kept}
-use Rattle.ends.specs.Packets.{toControllerPacket}
+use Rattle.ends.specs.Packets.{toControllerPacket, toControllerSent}
 use Rattle.ends.specs.Console.{end, act, acted}
 use Rattle.ends.proofs.ConsoleBeside.{same-refusal}
 use Rattle.ends.specs.declared.Report.the-variants.{Refused}
 use Rattle.ends.specs.declared.console.Act.{Act}
 use Rattle.ends.specs.declared.console.Acted.{Acted}
 use Rattle.channels.proofs.Packets.{to-controller-coded, to-console-coded}
-use Rattle.bench.specs.Moving.{sentOf, toControllerSent, roomFor, countSent, tableSent, countTaken, tableTaken}
+use Rattle.bench.specs.Moving.{sentOf, roomFor, countSent, tableSent, countTaken, tableTaken}
 use Rattle.bench.specs.Within.{Known, within, withinTold, insideMeans, insideStep, actionOf, asksOf, ConsoleReady}
 use Rattle.bench.specs.declared.Action.{Action}
 use Rattle.bench.specs.declared.inside.Inside.{Inside}

@@ -10,7 +10,7 @@ use Rattle.protocol.specs.Relabel.{in-packet, in-console, in-console-act, in-co
 use Rattle.protocol.proofs.Ends.{console-reports}
 use Rattle.ends.specs.Means.{Beside, reportBack}
 use Rattle.ends.specs.InRules.{delivered, kept}
-use Rattle.ends.specs.Packets.{toControllerPacket}
+use Rattle.ends.specs.Packets.{toControllerPacket, toControllerSent}
 use Rattle.ends.specs.Console.{mode, modeBack, end, act, acted}
 use Rattle.ends.proofs.ConsoleBeside.{refusalOf, acts-kept}
 use Rattle.ends.proofs.ConsoleRefusals.{same-for-controller}
@@ -18,7 +18,6 @@ use Rattle.ends.proofs.Telling.{report-told}
 use Rattle.ends.specs.declared.console.Act.{Act}
 use Rattle.ends.specs.declared.console.Acted.{Acted}
 use Rattle.ends.specs.declared.console.End.{End}
-use Rattle.bench.specs.Moving.{toControllerSent}
 
 mode-again : (x : rules.ConsoleMode Beside) → mode (modeBack x) ≡ x
 mode-again rules.ConsoleMode.idle = refl

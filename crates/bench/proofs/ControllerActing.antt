@@ -22,13 +22,13 @@ use Rattle.protocol.proofs.WellFormed.{controller-acts-ok, step-well-formed}
 use Rattle.letters.specs.Lines.{letterMeans}
 use Rattle.letters.specs.declared.Line.{Line}
 use Rattle.ends.specs.InRules.{deliveredBeside}
-use Rattle.ends.specs.Packets.{toConsolePacket}
+use Rattle.ends.specs.Packets.{toConsolePacket, toConsoleSent}
 use Rattle.ends.specs.Controller.{end, act, acted}
 use Rattle.ends.specs.declared.Report.the-variants.{Refused}
 use Rattle.ends.specs.declared.controller.Act.{Act}
 use Rattle.ends.specs.declared.controller.Acted.{Acted}
 use Rattle.channels.proofs.Packets.{to-controller-coded, to-console-coded}
-use Rattle.bench.specs.Moving.{sentOf, toConsoleSent, roomFor, countSent, tableSent, countTaken, tableTaken}
+use Rattle.bench.specs.Moving.{sentOf, roomFor, countSent, tableSent, countTaken, tableTaken}
 use Rattle.bench.specs.Within.{Known, within, withinTold, insideMeans, insideStep, actionOf, asksOf, ControllerReady}
 use Rattle.bench.specs.declared.Action.{Action}
 use Rattle.bench.specs.declared.inside.Inside.{Inside}

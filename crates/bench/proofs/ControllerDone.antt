@@ -9,14 +9,13 @@ use Rattle.protocol.specs.Relabel.{in-controller-act, in-controller-acted}
 use Rattle.protocol.proofs.Relabel.{nat-controller-acts}
 use Rattle.ends.specs.Means.{Beside, reportBack}
 use Rattle.ends.specs.InRules.{delivered, deliveredBeside}
-use Rattle.ends.specs.Packets.{toConsolePacket}
+use Rattle.ends.specs.Packets.{toConsolePacket, toConsoleSent}
 use Rattle.ends.specs.Controller.{mode, modeBack, end, act, acted}
 use Rattle.ends.proofs.ControllerRefusals.{same-for-console}
 use Rattle.ends.proofs.Telling.{report-told, delivered-told}
 use Rattle.ends.specs.declared.controller.Act.{Act}
 use Rattle.ends.specs.declared.controller.Acted.{Acted}
 use Rattle.ends.specs.declared.controller.End.{End}
-use Rattle.bench.specs.Moving.{toConsoleSent}
 
 mode-again : (x : rules.ControllerMode) → mode (modeBack x) ≡ x
 mode-again rules.ControllerMode.idle = refl

@@ -38,7 +38,7 @@ use Rattle.bench.proofs.runner.run.Reads as run
 -- ## Two puts: the second is 6
 
 -- P000, 16 spaces
-abbrev put : List ℕ
+abbrev pub put : List ℕ
 put = 0x50 ∷ 0x30 ∷ 0x30 ∷ 0x30 ∷ (spaces ++ 0x0A ∷ [])
 
 abbrev putting : Action
@@ -94,6 +94,11 @@ two-lines =
     ∙ ap (λ (x : List ℕ). lineBytes 1 0x50 Nothing spaces ++ x)
     (ap (λ (r : Result). told 2 r []) second
     ∙ ap (λ (x : ends.Report (List ℕ)). lineBytes 2 0x50 (reportBack x) (delivered x) ++ []) refused)
+
+-- the second line begins with its number and says 06, whatever follows it
+pub second-line : (rest : List ℕ) → (getD (listLines 2 (put ++ put) ++ rest) 27 0 ≡ 0x30) × (getD (listLines 2 (put ++ put) ++ rest) 34 0 ≡ 0x30)
+unfolding lineBytes decimals
+second-line rest = (ap (λ (l : List ℕ). getD (l ++ rest) 27 0) two-lines, ap (λ (l : List ℕ). getD (l ++ rest) 34 0) two-lines)
 
 -- of two puts with room for two lines, the second line says 06; a runner that says of it what it said of the first does not meet the promise
 module _ (κs : Lfts 2) (a : Dens κs run-kinds.ps) (x : ℕ) (s : AtExit (endedOf 2 run-kinds.ps run-kinds.r) κs) (two : now (a .0) ≡ put ++ put) (room : length (now (a .1 .0)) ≡ 54) (meets : run.Post κs a x s) where

@@ -16,6 +16,7 @@ pub mod Refusing
 pub mod Rooms
 pub mod Running
 pub mod Standing
+pub mod Starred
 pub mod Stepping
 pub mod Tables
 pub mod Untouched

@@ -154,7 +154,7 @@ module _ (j : J) (i : I) (out₀ back₀ : List ℕ) (p : j .0 < 2 ^ 32) (q : i 
   pub orders-plain : Plain (written (rowsOf [] b l) [])
   orders-plain = right-plain (written (rowsOf [] b l) []) (orders-right .right)
 
--- ## The step does on any well-formed bench what the rules do, so each starred check holds of it
+-- ## The step does on any well-formed bench what the rules do
 
 -- an action of the rules, with its letter's byte
 abbrev pub coded : rules.Action (List ℕ) → Action

@@ -25,7 +25,7 @@ use Rattle.ends.specs.declared.Report.the-variants.{Refused}
 use Rattle.records.specs.Line.{lineBytes, lineWritten}
 use Rattle.records.specs.Record.{wellFormed, illFormed, fields, listRecord}
 use Rattle.records.specs.declared.Record.{Record}
-use Rattle.records.proofs.Bounds.{read-well, read-ill}
+use Rattle.records.proofs.Fields.{read-well, read-ill}
 use Rattle.channels.specs.Packets.{toControllerBytes, toConsoleBytes}
 use Rattle.channels.specs.Table.{channel}
 use Rattle.bench.specs.Means.{benchOk, benchMeans, benchBack}

@@ -15,13 +15,15 @@ use Rattle.protocol.specs.Supply.{counted}
 use Rattle.protocol.specs.Bench as rules
 use Rattle.protocol.proofs.WellFormed.{fresh-well-formed}
 use Rattle.records.specs.Line.{lineBytes}
+use Rattle.records.specs.Record.{recordEnd}
+use Rattle.records.proofs.Ending.{end-within, end-after}
 use Rattle.channels.specs.Table.{packets}
 use Rattle.channels.proofs.Channel.{channel-none}
 use Rattle.channels.proofs.Packets.{to-controller-coded, to-console-coded}
 use Rattle.bench.specs.Means.{benchBack}
 use Rattle.channels.proofs.Parts.{part, replaced, part-length}
 use Rattle.bench.specs.Running.{recordsOf, played, lines, limitOf, listLines, listOutput, Ran}
-use Rattle.bench.specs.Within.{Known, insideMeans, benchOf, Played, endOf, linesOn, started}
+use Rattle.bench.specs.Within.{Known, insideMeans, benchOf, Played, linesOn, started}
 use Rattle.bench.specs.declared.Bench.{Bench}
 use Rattle.bench.specs.declared.inside.Inside.{Inside}
 
@@ -38,13 +40,13 @@ records-none zero = refl
 records-none (suc m) = refl
 
 -- the record that begins at a place
-pub record-is : (s : List ℕ) (start : ℕ) {end : ℕ} → start < length s → end ≡ endOf start (length s) → part s start end ≡ take 21 (drop start s)
-unfolding endOf if_then_else_
+pub record-is : (s : List ℕ) (start : ℕ) {end : ℕ} → start < length s → end ≡ recordEnd start (length s) → part s start end ≡ take 21 (drop start s)
+unfolding recordEnd if_then_else_
 record-is s start h e =
     let l = length-drop start s in
-    by-test (ltb (length s - start) 21)
+    by-test (ltb (length s) (start + 21))
     (λ y.
-    let k = ltb-true (length s - start) 21 y in
+    let k = ltb-true (length s) (start + 21) y in
     let f = rw y at e in
     rw f (take-all (length s - start) (drop start s) (omega (arith, l)) ∙ sym (take-all 21 (drop start s) (omega (arith, l, k)))))
     (λ n.
@@ -52,18 +54,11 @@ record-is s start h e =
     let g : start + 21 - start ≡ 21 = omega arith in
     rw (f, g))
 
-pub end-short : (start len : ℕ) → len - start < 21 → len ≡ endOf start len
-unfolding endOf if_then_else_
-end-short start len h = rw (lt-ltb (len - start) 21 h)
-
-pub end-whole : (start len : ℕ) → 21 ≤ len - start → start + 21 ≡ endOf start len
-unfolding endOf if_then_else_
-end-whole start len h = rw (le-ltb (len - start) 21 h)
-
-pub ruleset record-ends = (end-short, end-whole)
-
-pub record-some : (s : List ℕ) (start end : ℕ) → start < end → end ≤ length s → 0 < length (part s start end)
-record-some s start end h k = let l = part-length s start end k in omega (arith, l, h)
+pub record-some : (s : List ℕ) (start end : ℕ) → start < length s → end ≡ recordEnd start (length s) → 0 < length (part s start end)
+record-some s start end h e =
+    let l = part-length s start end (end-within start (length s) e) in
+    let k = end-after start (length s) e h in
+    omega (arith, l, k)
 
 pub line-long : (output : List ℕ) (n limit room : ℕ) → n < limit → limit * 27 ≤ room → length output ≡ room → length (part output (n * 27) (n * 27 + 27)) ≡ 27
 line-long output n limit room h r l = part-length output (n * 27) (n * 27 + 27) (omega (arith, h, r, l)) ∙ omega arith
@@ -158,7 +153,7 @@ module _ (all input before output : List ℕ) (limit n : ℕ) (b : Inside) (out 
       )
 
   pub along-turn : {end : ℕ} {after : Inside} {line out′ back′ : List ℕ} → Along all input before limit n b output out back → n < limit → limit * 27 ≤ length before → n * 21 < length input
-      → end ≡ endOf (n * 21) (length input) → Played b out back (part input (n * 21) end) (n + 1) after line out′ back′ → length line ≡ 27
+      → end ≡ recordEnd (n * 21) (length input) → Played b out back (part input (n * 21) end) (n + 1) after line out′ back′ → length line ≡ 27
       → Along all input before limit (n + 1) after (replaced output (n * 27) (n * 27 + 27) line) out′ back′
   along-turn {end} {after} {line} {out′} {back′} v h r k e p l =
       along-next v h r k (subst (λ (x : List ℕ). Played b out back x (n + 1) after line out′ back′) (record-is input (n * 21) k e) p) l

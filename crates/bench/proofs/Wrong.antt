@@ -1,8 +1,8 @@
 -- Benches that the promises shut out. A step: one that always refuses, one that always says OK, one that changes nothing. A fresh bench: one
--- that always refuses, one that leaves the tables as they were.
+-- that always refuses, one that leaves the tables as they were. A test of a bench: one that always says yes, one that doesn't look at the ends.
 use Prim.Native.Nat.{ℕ}
 use mathlib.Core.Path.{_≡_, refl, sym, ap, _∙_}
-use mathlib.Core.Bool.{true}
+use mathlib.Core.Bool.{true, false, true≢false}
 use mathlib.Core.List.{List, [], _∷_}
 use native.Mathlib.Omega.{arith}
 use lib.ListN.{length, replicate, getD}
@@ -14,6 +14,7 @@ use denote.Triple.Clauses.{AtExit}
 use Rattle.ground.specs.Cell.{cells, isMessage, spaces}
 use Rattle.ground.specs.Choice.{if_then_else_}
 use Rattle.ground.specs.Every.{filled}
+use Rattle.ground.proofs.Promise.{RulesOut}
 use Rattle.wire.specs.declared.I.{I}
 use Rattle.wire.specs.declared.J.{J}
 use Rattle.wire.specs.Number.{bytesOf}
@@ -21,7 +22,7 @@ use Rattle.wire.specs.Packet.{packetBytes}
 use Rattle.protocol.specs.Letters.{letters, among, letter}
 use Rattle.protocol.specs.Ends.{needI}
 use Rattle.protocol.specs.Bench as rules
-use Rattle.ends.specs.Fields.{consoleOk, consoleMode, consoleWith, controllerOk, controllerMode, freshController}
+use Rattle.ends.specs.Fields.{consoleOk, consoleMode, consoleWith, freshConsole, controllerOk, controllerMode, freshController}
 use Rattle.ends.specs.declared.console.Mode.the-variants.{NeedI}
 use Rattle.ends.specs.declared.Report.the-variants as report
 use Rattle.channels.specs.Packets.{toControllerBytes}
@@ -35,6 +36,8 @@ use Rattle.bench.proofs.step.Kinds as step-kinds
 use Rattle.bench.proofs.step.Reads as step
 use Rattle.bench.proofs.fresh.Kinds as fresh-kinds
 use Rattle.bench.proofs.fresh.Reads as fresh
+use Rattle.bench.proofs.well_formed.Kinds as well-formed-kinds
+use Rattle.bench.proofs.well_formed.Reads as well-formed
 
 no-refusal : (n : ℕ) → report.Nothing ≡ report.Refused n → ⊥
 no-refusal n e = let z : _≡_ {A = ℕ} 0 1 = cc in omega (arith, z)
@@ -114,3 +117,35 @@ module _ (κs : Lfts 2) (a : Dens κs fresh-kinds.ps) (x : Outcome) (s : AtExit 
   pub fresh-leaves-back : (now (a .1 .1 .1 .0) ≡ clear → ⊥) → now (s .1 .1 .1 .0) ≡ now (a .1 .1 .1 .0) → ⊥
   fresh-leaves-back dirty e =
       dirty (sym e ∙ ap (λ (r : Result). r .back) meets ∙ fresh-clears (a .0) (a .1 .0) (now (a .1 .1 .0)) (now (a .1 .1 .1 .0)) out-long back-long .2)
+
+-- ## A test of a bench
+
+abbrev started : Bench
+started =
+    record { console = freshConsole (record { 0 = 0 }); controller = freshController (record { 0 = 0 }); sent = 0; returned = 0 }
+
+-- j set with no message held
+abbrev contradicts : Bench
+contradicts =
+    record {
+      console =
+          record { used = record { 0 = 1 }; held = false; message = spaces; j = record { 0 = 1 }; last = record { 0 = 0 }; up = true };
+      controller = freshController (record { 0 = 0 });
+      sent = 0;
+      returned = 0;
+    }
+
+short-table : (out back : List ℕ) → length out ≡ 2047 → benchOk started out back ≡ false
+unfolding benchOk consoleOk controllerOk tableOk filled if_then_else_
+short-table out back l = rw l
+
+pub well-formed-always-yes : RulesOut well-formed-kinds.ps well-formed-kinds.r well-formed.Post (λ κs a. (a .0 ≡ started) × (length (now (a .1 .0)) ≡ 2047)) (λ κs a x s. x ≡ true)
+well-formed-always-yes κs a x s e w p =
+    let out = now (a .1 .0) in
+    let back = now (a .1 .1 .0) in
+    true≢false (sym w ∙ p ∙ ap (λ (b : Bench). benchOk b out back) (e .0) ∙ short-table out back (e .1))
+
+-- with clear tables
+pub looks-at-no-end : RulesOut well-formed-kinds.ps well-formed-kinds.r well-formed.Post (λ κs a. (a .0 ≡ contradicts) × (now (a .1 .0) ≡ clear) × (now (a .1 .1 .0) ≡ clear)) (λ κs a x s. x ≡ true)
+unfolding benchOk consoleOk if_then_else_
+looks-at-no-end κs a x s e w p = true≢false (sym w ∙ p ∙ (λ i. benchOk (e .0 i) (e .1 i) (e .2 i)))

@@ -5,18 +5,12 @@ use lib.Dec.{ltb}
 use Rattle.ground.specs.Choice.{if_then_else_}
 use Rattle.ground.specs.Cell.{spaces}
 use Rattle.wire.specs.declared.Direction.the-variants as dir
-use Rattle.wire.specs.declared.Head.{Head}
-use Rattle.wire.specs.declared.Head.the-variants as head
-use Rattle.wire.specs.declared.ReadHead.{ReadHead}
-use Rattle.wire.specs.declared.ReadHead.the-variants.{Refused, Is}
 use Rattle.wire.specs.declared.ReadPacket.{ReadPacket}
 use Rattle.letters.specs.declared.Letter.{Letter}
 use Rattle.letters.specs.declared.Letter.the-variants as letters
-use Rattle.ends.specs.declared.ToConsole.the-variants as down
-use Rattle.ends.specs.declared.ToController.the-variants as up
+use Rattle.ends.specs.Packets.{readForController, readForConsole}
 use Rattle.ends.specs.declared.ForConsole.{ForConsole}
 use Rattle.ends.specs.declared.ForConsole.the-variants as for-console
-use Rattle.ends.specs.declared.ForController.{ForController}
 use Rattle.ends.specs.declared.ForController.the-variants as for-controller
 use Rattle.ends.specs.declared.console.Act.the-variants as console
 use Rattle.ends.specs.declared.controller.Act.the-variants as controller
@@ -25,38 +19,13 @@ use Rattle.bench.specs.declared.asks.Asked.the-variants.{Console, Contro
 use Rattle.bench.specs.declared.asks.Request.{Request}
 use Rattle.bench.specs.declared.asks.Heard.{Heard}
 
--- what goes the other way is no packet for this end
-abbrev pub goesToConsole : Head → ForConsole
-goesToConsole (head.NeedI j) = for-console.Nothing
-goesToConsole (head.Offer j i) = for-console.Packet (down.Offer j i)
-goesToConsole (head.Data i) = for-console.Nothing
-goesToConsole (head.Ok i) = for-console.Packet (down.Ok i)
-goesToConsole (head.Lost i) = for-console.Packet (down.Lost i)
-goesToConsole (head.Done i) = for-console.Nothing
-
-abbrev pub goesToController : Head → ForController
-goesToController (head.NeedI j) = for-controller.Packet (up.NeedI j)
-goesToController (head.Offer j i) = for-controller.Nothing
-goesToController (head.Data i) = for-controller.Packet (up.Data i)
-goesToController (head.Ok i) = for-controller.Nothing
-goesToController (head.Lost i) = for-controller.Nothing
-goesToController (head.Done i) = for-controller.Packet (up.Done i)
-
-abbrev pub readToConsole : ReadHead → ForConsole
-readToConsole (Refused n) = for-console.Nothing
-readToConsole (Is h) = goesToConsole h
-
-abbrev pub readToController : ReadHead → ForController
-readToController (Refused n) = for-controller.Nothing
-readToController (Is h) = goesToController h
-
 abbrev pub heard : ReadPacket → Heard
-heard p = record { packet = readToController (p .head); message = p .message }
+heard p = record { packet = readForController (p .head); message = p .message }
 
 -- the packet at a place, if the place is below the count
 unfoldable pub backAt : List ℕ → ℕ → ℕ → ForConsole
 backAt back returned place =
-    if ltb place returned then readToConsole (packetAt back place .head) else for-console.Nothing
+    if ltb place returned then readForConsole (packetAt back place .head) else for-console.Nothing
 
 unfoldable pub outAt : List ℕ → ℕ → ℕ → Heard
 outAt out sent place =

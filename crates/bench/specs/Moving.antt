@@ -1,17 +1,13 @@
 -- What the private functions promise of what goes into and out of a table. Nothing of it stands in the promise of an entry. Assumes nothing.
 use Prim.Native.Nat.{ℕ, _+_, _-_}
 use mathlib.Core.Bool.{Bool, true, false, not, _&&_}
-use mathlib.Core.Option.{Option, none, some, Option·map}
+use mathlib.Core.Option.{Option, none, some}
 use mathlib.Core.List.{List}
 use lib.Dec.{leb, ltb}
 use Rattle.ground.specs.Choice.{if_then_else_}
 use Rattle.wire.specs.declared.Head.the-variants.{NeedI}
 use Rattle.wire.specs.declared.Packet.{Packet}
-use Rattle.protocol.specs.Relabel.{in-packet}
-use Rattle.ends.specs.Means.{forController, forConsole}
-use Rattle.ends.specs.Packets.{zeros, toControllerPacket, toConsolePacket}
-use Rattle.ends.specs.declared.ForController.{ForController}
-use Rattle.ends.specs.declared.ForConsole.{ForConsole}
+use Rattle.ends.specs.Packets.{zeros}
 use Rattle.channels.specs.Table.{added, takenOut}
 use Rattle.bench.specs.declared.moves.Sent.{Sent}
 
@@ -19,12 +15,6 @@ use Rattle.bench.specs.declared.moves.Sent.{Sent}
 abbrev pub sentOf : Option Packet → Sent
 sentOf none = record { any = false; packet = record { head = NeedI (record { 0 = 0 }); message = zeros } }
 sentOf (some p) = record { any = true; packet = p }
-
-unfoldable pub toControllerSent : ForController → List ℕ → Option Packet
-toControllerSent sent m = Option·map toControllerPacket (Option·map (in-packet (λ _. m)) (forController sent))
-
-unfoldable pub toConsoleSent : ForConsole → Option Packet
-toConsoleSent sent = Option·map toConsolePacket (forConsole sent)
 
 -- is there room for the copies? Of nothing there always is
 unfoldable pub roomFor : Bool → ℕ → ℕ → Bool

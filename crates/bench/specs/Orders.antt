@@ -10,8 +10,7 @@ use Rattle.protocol.specs.Supply.{counted}
 use Rattle.protocol.specs.Letters.{Letter, letter}
 use Rattle.protocol.specs.Bench as rules
 use Rattle.protocol.specs.Bench.{fresh}
-use Rattle.protocol.specs.Judge.{Labelled}
-use Rattle.protocol.specs.Log.{Log, Event, Delivered, AnsweredOK, AnsweredLost, Right}
+use Rattle.protocol.specs.Log.{Labelled, Log, Event, Delivered, AnsweredOK, AnsweredLost, Right}
 use Rattle.protocol.specs.Demand3.{acted, write, labelled-step, row-of, written, unnumbered}
 use Rattle.ends.specs.declared.Report.{Report}
 use Rattle.ends.specs.declared.Report.the-variants as report

@@ -1,5 +1,5 @@
 -- What the private step promises, of a bench that is known to be well formed. Nothing of it stands in the promise of an entry. Assumes nothing.
-use Prim.Native.Nat.{ℕ, _+_, _-_, _<_, _^_}
+use Prim.Native.Nat.{ℕ, _<_, _^_}
 use mathlib.Core.Path.{_≡_}
 use mathlib.Core.Bool.{Bool, true, false, _&&_}
 use mathlib.Core.Option.{none, some}
@@ -208,9 +208,6 @@ pub record Played (b : Inside) (out back : List ℕ) (s : List ℕ) (number : �
   pub bench-is : benchOf after ≡ played (benchOf b) out back s .outcome .bench
   pub out-is : out′ ≡ played (benchOf b) out back s .out
   pub back-is : back′ ≡ played (benchOf b) out back s .back
-
-unfoldable pub endOf : ℕ → ℕ → ℕ
-endOf start len = if ltb (len - start) 21 then len else start + 21
 
 unfoldable pub linesOn : Inside → List ℕ → List ℕ → List ℕ → ℕ → List ℕ
 linesOn b out back input room = lines 1 (benchOf b) out back (recordsOf (limitOf room) input)

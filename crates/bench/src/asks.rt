@@ -1,16 +1,16 @@
 // What a letter asks, and of whom: the packet at the place is read here, and a place that isn't below the count has none.
 use ends::ForConsole;
 use ends::ForController;
-use ends::ToConsole;
-use ends::ToController;
+use ends::beside::for_console;
+use ends::beside::for_controller;
 use ends::console;
 use ends::controller;
 use letters::Letter;
 use wire::Direction;
-use wire::Head;
 use wire::ReadHead;
 ghost use mathlib.Core.Path.{_≡_};
-ghost use Rattle.bench.specs.Asking.{goesToConsole, goesToController, readToConsole, readToController, backAt, outAt, hearing, requested};
+ghost use Rattle.ends.specs.Packets.{readForController, readForConsole};
+ghost use Rattle.bench.specs.Asking.{backAt, outAt, hearing, requested};
 
 pub enum Asked {
     Console(console::Act),
@@ -29,47 +29,21 @@ struct Heard {
     message: [u8; 16],
 }
 
-fn to_console(head: Head) -> ForConsole
-    ensures { λ r. ⌜ r ≡ goesToConsole head ⌝ }
-{
-    match head {
-        Head::NeedI(_) => ForConsole::Nothing,
-        Head::Offer(j, i) => ForConsole::Packet(ToConsole::Offer(j, i)),
-        Head::Data(_) => ForConsole::Nothing,
-        Head::Ok(i) => ForConsole::Packet(ToConsole::Ok(i)),
-        Head::Lost(i) => ForConsole::Packet(ToConsole::Lost(i)),
-        Head::Done(_) => ForConsole::Nothing,
-    }
-}
-
-fn to_controller(head: Head) -> ForController
-    ensures { λ r. ⌜ r ≡ goesToController head ⌝ }
-{
-    match head {
-        Head::NeedI(j) => ForController::Packet(ToController::NeedI(j)),
-        Head::Offer(_, _) => ForController::Nothing,
-        Head::Data(i) => ForController::Packet(ToController::Data(i)),
-        Head::Ok(_) => ForController::Nothing,
-        Head::Lost(_) => ForController::Nothing,
-        Head::Done(i) => ForController::Packet(ToController::Done(i)),
-    }
-}
-
 fn read_to_console(head: ReadHead) -> ForConsole
-    ensures { λ r. ⌜ r ≡ readToConsole head ⌝ }
+    ensures { λ r. ⌜ r ≡ readForConsole head ⌝ }
 {
     match head {
         ReadHead::Refused(_) => ForConsole::Nothing,
-        ReadHead::Is(h) => to_console(h),
+        ReadHead::Is(h) => for_console(h),
     }
 }
 
 fn read_to_controller(head: ReadHead) -> ForController
-    ensures { λ r. ⌜ r ≡ readToController head ⌝ }
+    ensures { λ r. ⌜ r ≡ readForController head ⌝ }
 {
     match head {
         ReadHead::Refused(_) => ForController::Nothing,
-        ReadHead::Is(h) => to_controller(h),
+        ReadHead::Is(h) => for_controller(h),
     }
 }
 
@@ -80,7 +54,7 @@ fn at_back(back: &[u8], returned: usize, place: usize) -> ForConsole
     if returned <= place {
         return ForConsole::Nothing;
     }
-    let head = channels::packet_at(back, place).head;
+    let head = channels::head_at(back, place);
     read_to_console(head)
 }
 

@@ -62,7 +62,7 @@ fn is_good(uses: bool, message: [u8; 16]) -> bool
     ensures { λ r. ⌜ r ≡ (if uses then isMessage message else true) ⌝ }
 {
     if uses {
-        ground::all_cells(&message)
+        ground::is_message(&message)
     } else {
         true
     }

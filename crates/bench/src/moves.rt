@@ -9,7 +9,8 @@ use wire::Packet;
 ghost use mathlib.Core.Path.{_≡_};
 ghost use mathlib.Core.Bool.{true};
 ghost use mathlib.Core.Option.{none};
-ghost use Rattle.bench.specs.Moving.{sentOf, toControllerSent, toConsoleSent, roomFor, countSent, tableSent, countTaken, tableTaken};
+ghost use Rattle.ends.specs.Packets.{toControllerSent, toConsoleSent};
+ghost use Rattle.bench.specs.Moving.{sentOf, roomFor, countSent, tableSent, countTaken, tableTaken};
 
 // What an end sends, if it sends.
 pub struct Sent {

@@ -10,11 +10,11 @@ use letters::Found;
 use records::Record;
 use wire::I;
 use wire::J;
-ghost use Prim.Native.Nat.{_<_, _≤_};
+ghost use Prim.Native.Nat.{_<_};
 ghost use mathlib.Core.Path.{_≡_};
 ghost use lib.ListN.{length};
 ghost use Rattle.bench.specs.Running.{limitOf, listLines, Ran};
-ghost use Rattle.bench.specs.Within.{Known, within, FoundLined, recordStep, Played, endOf, linesOn, started};
+ghost use Rattle.bench.specs.Within.{Known, within, FoundLined, recordStep, Played, linesOn, started};
 
 // A record that is not well formed is 1.
 fn play(b: Inside, r: Record, out: &mut [u8], back: &mut [u8]) -> Told
@@ -62,14 +62,6 @@ fn turn(
     after
 }
 
-// Where a record that begins at `at` ends: the last may be short.
-fn end_of(at: usize, len: usize) -> usize
-    requires { ⌜ at < len ⌝ }
-    ensures { λ r. ⌜ (r ≡ endOf at len) × ((at < r) × (r ≤ len)) ⌝ }
-{
-    if len - at < 21 { len } else { at + 21 }
-}
-
 // At most 9,999 records, and no more than there is room for lines.
 fn limit_of(room: usize) -> usize
     ensures { λ r. ⌜ r ≡ limitOf room ⌝ }
@@ -91,7 +83,7 @@ fn run_on(b: Inside, input: &[u8], output: &mut [u8], out: &mut [u8], back: &mut
         if input.len() <= start {
             return n * 27;
         }
-        let end = end_of(start, input.len());
+        let end = records::record_end(start, input.len());
         let line = n * 27;
         at = turn(
             at,

@@ -20,8 +20,8 @@ use Rattle.wire.specs.declared.Direction.{Direction}
 use Rattle.wire.specs.declared.Packet.{Packet}
 use Rattle.wire.specs.declared.ReadPacket.{ReadPacket}
 use Rattle.wire.specs.Frame.{field}
-use Rattle.wire.specs.Packet.{directionOf, fits, packetBytes, packetRead, accepted, Typed}
-use Rattle.wire.proofs.Fitting.{packet-long}
+use Rattle.wire.specs.Packet.{directionOf, fits, packetBytes, packetRead, accepted}
+use Rattle.wire.proofs.Fitting.{Typed, packet-long}
 use Rattle.wire.proofs.Trips.{read-back}
 use Rattle.protocol.specs.Bench.{at, without}
 use Rattle.protocol.specs.Lists.{All}

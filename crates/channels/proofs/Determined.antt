@@ -5,6 +5,8 @@ use borrow.Fn.Kinds.{Dens, endedOf, resT}
 use denote.Ref.{now, ptr}
 use denote.Triple.Clauses.{AtExit}
 use Rattle.ground.proofs.Promise.{Determined, DeterminedWith}
+use Rattle.channels.proofs.check.head_at.Kinds as head-at-kinds
+use Rattle.channels.proofs.check.head_at.Reads as head-at
 use Rattle.channels.proofs.check.packet_at.Kinds as packet-at-kinds
 use Rattle.channels.proofs.check.packet_at.Reads as packet-at
 use Rattle.channels.proofs.check.table_ok.Kinds as table-ok-kinds
@@ -21,6 +23,9 @@ use Rattle.channels.proofs.shown.show_refusal.Kinds as show-refusal-kin
 use Rattle.channels.proofs.shown.show_refusal.Reads as show-refusal
 use Rattle.channels.proofs.shown.show.Kinds as show-kinds
 use Rattle.channels.proofs.shown.show.Reads as show
+
+pub head-at-determined : Determined head-at-kinds.ps head-at-kinds.r head-at.Post
+head-at-determined κs a x y s t p q = p ∙ sym q
 
 pub packet-at-determined : Determined packet-at-kinds.ps packet-at-kinds.r packet-at.Post
 packet-at-determined κs a x y s t p q = p ∙ sym q

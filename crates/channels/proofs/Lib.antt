@@ -6,3 +6,4 @@ pub mod Parts
 pub mod Scans
 pub mod Showing
 pub mod Taking
+pub mod Wrong

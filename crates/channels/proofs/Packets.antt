@@ -19,8 +19,8 @@ use Rattle.wire.specs.declared.Packet.{Packet}
 use Rattle.wire.specs.declared.ReadHead.{ReadHead}
 use Rattle.wire.specs.declared.ReadHead.the-variants.{Refused, Is}
 use Rattle.wire.specs.declared.ReadPacket.{ReadPacket}
-use Rattle.wire.specs.Packet.{directionOf, fits, packetBytes, packetRead, accepted, Typed}
-use Rattle.wire.proofs.Fitting.{fits-numbers, fits-message, blank-is, needI-fits, offer-fits, data-fits, ok-fits, lost-fits, done-fits, first-above, second-above, to-controller, to-console}
+use Rattle.wire.specs.Packet.{directionOf, fits, packetBytes, packetRead, accepted}
+use Rattle.wire.proofs.Fitting.{Typed, fits-numbers, fits-message, blank-is, needI-fits, offer-fits, data-fits, ok-fits, lost-fits, done-fits, first-above, second-above, to-controller, to-console}
 use Rattle.wire.proofs.Outcomes.{accepted-is}
 use Rattle.wire.proofs.Trips.{read-back, Taken, taken}
 use Rattle.protocol.specs.Ends.{ToController, needI, order, done, ToConsole, offer, ok, lost}

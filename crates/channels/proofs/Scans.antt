@@ -1,6 +1,6 @@
 -- The scans of a table.
 use Prim.Native.Nat.{ℕ, suc, _+_, _-_, _*_, _/_, _≤_, _<_}
-use mathlib.Core.Path.{_≡_, refl, sym, _∙_}
+use mathlib.Core.Path.{_≡_, refl, sym, ap, _∙_}
 use mathlib.Core.List.{List, []}
 use mathlib.Core.Bool.{Bool, true, false, _&&_}
 use native.Mathlib.Omega.{arith}
@@ -19,22 +19,36 @@ use Rattle.wire.specs.declared.ReadPacket.{ReadPacket}
 use Rattle.wire.specs.Frame.{field}
 use Rattle.wire.specs.Packet.{directionOf, packetRead}
 use Rattle.wire.proofs.Copies.{rest-lent}
-use Rattle.wire.proofs.Reading.{read-length}
+use Rattle.wire.proofs.Reading.{read-short}
 use Rattle.channels.specs.Table.{sameWay, goes, packetAt, placesOk, tableOk}
 
 -- a place of the table, and one that isn't there
-pub read-none : (t : List ℕ) (place : ℕ) {r : ReadPacket} → length t / 32 ≤ place → r ≡ packetRead [] → r ≡ packetAt t place
-unfolding packetAt
-read-none t place h e =
-    let l = length-take 32 (drop (place * 32) t) in
-    let d = length-drop (place * 32) t in
-    read-length (field t (place * 32) 32) (λ z. omega (arith, h, l, d, z)) (e ∙ sym (read-length [] (λ z. omega (arith, z)) refl))
+module _ (t : List ℕ) (place : ℕ) where
+  no-place : length t / 32 ≤ place → packetRead [] ≡ packetAt t place
+  unfolding packetAt
+  no-place h =
+      let l = length-take 32 (drop (place * 32) t) in
+      let d = length-drop (place * 32) t in
+      read-short [] (λ z. omega (arith, z)) ∙ sym (read-short (field t (place * 32) 32) (λ z. omega (arith, h, l, d, z)))
 
-pub read-place : (t : List ℕ) (place : ℕ) {r : ReadPacket} → r ≡ packetRead (take (place * 32 + 32 - place * 32) (drop (place * 32) t)) → r ≡ packetAt t place
-unfolding packetAt
-read-place t place e =
-    let d : place * 32 + 32 - place * 32 ≡ 32 = omega arith in
-    e ∙ rw d
+  abbrev lent : List ℕ
+  lent = take (place * 32 + 32 - place * 32) (drop (place * 32) t)
+
+  the-place : packetRead lent ≡ packetAt t place
+  unfolding packetAt
+  the-place = let d : place * 32 + 32 - place * 32 ≡ 32 = omega arith in rw d
+
+  pub read-none : {r : ReadPacket} → length t / 32 ≤ place → r ≡ packetRead [] → r ≡ packetAt t place
+  read-none h e = e ∙ no-place h
+
+  pub read-place : {r : ReadPacket} → r ≡ packetRead lent → r ≡ packetAt t place
+  read-place e = e ∙ the-place
+
+  pub head-none : {r : ReadHead} → length t / 32 ≤ place → r ≡ packetRead [] .head → r ≡ packetAt t place .head
+  head-none h e = e ∙ ap (λ (r : ReadPacket). r .head) (no-place h)
+
+  pub head-place : {r : ReadHead} → r ≡ packetRead lent .head → r ≡ packetAt t place .head
+  head-place e = e ∙ ap (λ (r : ReadPacket). r .head) the-place
 
 pub head-is : (dir : Direction) (head : ReadHead) {h : Head} {d : Direction} {r : Bool} → head ≡ Is h → d ≡ directionOf h → r ≡ sameWay d dir → r ≡ goes dir head
 head-is dir head e f g = rw (e, ← f) g
@@ -48,10 +62,10 @@ module _ (dir : Direction) (t : List ℕ) (n i : ℕ) {x : Bool} (known : x ≡ 
       let g : (i + 1) * 32 ≡ i * 32 + 32 = omega arith in
       rw (e, g, drop-drop 32 (i * 32) t)
 
-  pub place-on : {r : ReadPacket} {g : Bool} → i < n → r ≡ packetAt t i → g ≡ goes dir (r .head) → g ≡ true → x ≡ placesOk dir (n - (i + 1)) (drop ((i + 1) * 32) t)
+  pub place-on : {r : ReadHead} {g : Bool} → i < n → r ≡ packetAt t i .head → g ≡ goes dir r → g ≡ true → x ≡ placesOk dir (n - (i + 1)) (drop ((i + 1) * 32) t)
   place-on h e f y = known ∙ place-step h ∙ rw (← e, ← f, y)
 
-  pub place-off : {r : ReadPacket} {g : Bool} → i < n → r ≡ packetAt t i → g ≡ goes dir (r .head) → g ≡ false → false ≡ x
+  pub place-off : {r : ReadHead} {g : Bool} → i < n → r ≡ packetAt t i .head → g ≡ goes dir r → g ≡ false → false ≡ x
   place-off h e f y = sym (known ∙ place-step h ∙ rw (← e, ← f, y))
 
   pub place-end : n ≤ i → true ≡ x

@@ -1,13 +1,16 @@
 -- The packets of the rules as 32 bytes, and back. Assumes nothing.
 use Prim.Native.Nat.{ℕ}
 use mathlib.Core.List.{List}
-use Rattle.wire.specs.declared.Head.the-variants.{NeedI, Offer, Data, Ok, Lost, Done}
-use Rattle.wire.specs.declared.Packet.{Packet}
 use Rattle.wire.specs.declared.ReadHead.{ReadHead}
-use Rattle.wire.specs.declared.ReadHead.the-variants.{Refused, Is}
 use Rattle.wire.specs.Packet.{packetBytes, packetRead}
-use Rattle.ends.specs.Packets.{toControllerPacket, toConsolePacket}
-use Rattle.protocol.specs.Ends.{ToController, needI, order, done, ToConsole, offer, ok, lost}
+use Rattle.protocol.specs.Ends.{ToController, needI, ToConsole, ok}
+use Rattle.protocol.specs.Relabel.{in-packet}
+use Rattle.ends.specs.Means.{toController, toConsole}
+use Rattle.ends.specs.Packets.{toControllerPacket, toConsolePacket, readForController, readForConsole}
+use Rattle.ends.specs.declared.ForController.{ForController}
+use Rattle.ends.specs.declared.ForController.the-variants as for-controller
+use Rattle.ends.specs.declared.ForConsole.{ForConsole}
+use Rattle.ends.specs.declared.ForConsole.the-variants as for-console
 
 -- ## To the controller
 
@@ -15,14 +18,12 @@ unfoldable pub toControllerBytes : ToController (List ℕ) → List ℕ
 toControllerBytes p = packetBytes (toControllerPacket p)
 
 -- what is no packet to the controller gives needI 0, which is none either
+abbrev pub controllerCame : ForController → List ℕ → ToController (List ℕ)
+controllerCame for-controller.Nothing m = needI 0
+controllerCame (for-controller.Packet p) m = in-packet (λ _. m) (toController p)
+
 abbrev pub asToController : ReadHead → List ℕ → ToController (List ℕ)
-asToController (Refused n) m = needI 0
-asToController (Is (NeedI j)) m = needI (j .0)
-asToController (Is (Offer j i)) m = needI 0
-asToController (Is (Data i)) m = order (i .0) m
-asToController (Is (Ok i)) m = needI 0
-asToController (Is (Lost i)) m = needI 0
-asToController (Is (Done i)) m = done (i .0)
+asToController h m = controllerCame (readForController h) m
 
 unfoldable pub toControllerRead : List ℕ → ToController (List ℕ)
 toControllerRead s = asToController (packetRead s .head) (packetRead s .message)
@@ -33,14 +34,12 @@ unfoldable pub toConsoleBytes : ToConsole → List ℕ
 toConsoleBytes p = packetBytes (toConsolePacket p)
 
 -- what is no packet to the console gives ok 0, which is none either
+abbrev pub consoleCame : ForConsole → ToConsole
+consoleCame for-console.Nothing = ok 0
+consoleCame (for-console.Packet p) = toConsole p
+
 abbrev pub asToConsole : ReadHead → ToConsole
-asToConsole (Refused n) = ok 0
-asToConsole (Is (NeedI j)) = ok 0
-asToConsole (Is (Offer j i)) = offer (j .0) (i .0)
-asToConsole (Is (Data i)) = ok 0
-asToConsole (Is (Ok i)) = ok (i .0)
-asToConsole (Is (Lost i)) = lost (i .0)
-asToConsole (Is (Done i)) = ok 0
+asToConsole h = consoleCame (readForConsole h)
 
 unfoldable pub toConsoleRead : List ℕ → ToConsole
 toConsoleRead s = asToConsole (packetRead s .head)

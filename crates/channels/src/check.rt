@@ -18,6 +18,17 @@ pub fn packet_at(table: &[u8], place: usize) -> ReadPacket
     wire::read_packet(&table[at..at + 32])
 }
 
+// Its head alone.
+pub fn head_at(table: &[u8], place: usize) -> ReadHead
+    ensures { λ r. ⌜ r ≡ packetAt (now (table .entry)) place .head ⌝ }
+{
+    if table.len() / 32 <= place {
+        return wire::read_head(&table[..0]);
+    }
+    let at = place * 32;
+    wire::read_head(&table[at..at + 32])
+}
+
 fn same_way(a: Direction, b: Direction) -> bool
     ensures { λ r. ⌜ r ≡ sameWay a b ⌝ }
 {
@@ -49,8 +60,7 @@ fn places_ok(table: &[u8], count: usize, dir: Direction) -> bool
 {
     let mut i = 0;
     while i < count {
-        let p = packet_at(table, i);
-        let head = p.head;
+        let head = head_at(table, i);
         if !head_goes(head, dir) {
             return false;
         }

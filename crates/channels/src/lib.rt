@@ -7,6 +7,7 @@ pub use change::add;
 pub use change::clear;
 pub use change::take_out;
 pub use check::bytes_fit;
+pub use check::head_at;
 pub use check::packet_at;
 pub use check::table_ok;
 pub use shown::show;

@@ -2,9 +2,9 @@
 use mathlib.Core.Path.{_≡_, refl, sym, _∙_}
 use Prim.Native.Nat.{_+_}
 use mathlib.Core.Option.{none}
-use mathlib.Core.Bool.{false}
+use mathlib.Core.Bool.{Bool, true, false}
 use native.Mathlib.Numerals.{add-one}
-use borrow.Author.Tests.{eq-eqb, ne-eqb}
+use lib.Dec.{eqb}
 use Rattle.ground.specs.Choice.{if_then_else_}
 use Rattle.protocol.specs.Supply.{counted, next-counted}
 use Rattle.protocol.proofs.Lists.{if-holds}
@@ -38,13 +38,13 @@ unfolding console-acts console-turn end-after numbers-after up-after
 takes-none e h = h ∙ λ i. record { report = report.Nothing; sent = for-controller.Nothing; after = record { used = e .used; mode = same-mode (e .mode) i; up = e .up } }
 
 module _ {x : Acted} (e : End) where
-  pub puts-spent : e .used .0 ≡ 4294967295 → x ≡ record { report = report.Nothing; sent = for-controller.Nothing; after = e } → x ≡ acted (console-acts counted (end e) (put tt))
+  pub puts-spent : {s : Bool} → s ≡ eqb (e .used .0) 4294967295 → s ≡ true → x ≡ record { report = report.Nothing; sent = for-controller.Nothing; after = e } → x ≡ acted (console-acts counted (end e) (put tt))
   unfolding console-acts console-turn puts end-after numbers-after up-after next-counted if_then_else_
-  puts-spent s h = rw (eq-eqb (e .used .0) 4294967295 s) (h ∙ λ i. record { report = report.Nothing; sent = for-controller.Nothing; after = record { used = e .used; mode = same-mode (e .mode) i; up = e .up } })
+  puts-spent s y h = rw (← s, y) (h ∙ λ i. record { report = report.Nothing; sent = for-controller.Nothing; after = record { used = e .used; mode = same-mode (e .mode) i; up = e .up } })
 
-pub puts-next : (e : End) → (e .used .0 ≡ 4294967295 → ⊥) → record { report = report.Nothing; sent = for-controller.Nothing; after = record { used = record { 0 = e .used .0 + 1 }; mode = NeedI (record { 0 = e .used .0 + 1 }); up = e .up } } ≡ acted (console-acts counted (end e) (put tt))
+pub puts-next : {s : Bool} (e : End) → s ≡ eqb (e .used .0) 4294967295 → s ≡ false → record { report = report.Nothing; sent = for-controller.Nothing; after = record { used = record { 0 = e .used .0 + 1 }; mode = NeedI (record { 0 = e .used .0 + 1 }); up = e .up } } ≡ acted (console-acts counted (end e) (put tt))
 unfolding console-acts console-turn puts end-after numbers-after up-after next-counted if_then_else_
-puts-next e s = rw (ne-eqb (e .used .0) 4294967295 s, add-one)
+puts-next e s n = rw (← s, n, add-one)
 
 -- a console takes no number from a packet
 abbrev NoNumber : rules.Turn Beside (rules.ConsoleMode Beside) (rules.ToController Beside) → Type 0

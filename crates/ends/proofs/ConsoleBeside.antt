@@ -4,10 +4,9 @@ use mathlib.Core.Path.{_≡_, refl, sym, ap}
 use mathlib.Core.Bool.{Bool, false, false≢true}
 use mathlib.Core.Option.{Option, none, some}
 use mathlib.Core.List.{List}
-use lib.ListN.{length}
 use borrow.Author.Tests.{ne-eqb, eq-eqb}
 use Rattle.ground.specs.Choice.{if_then_else_}
-use Rattle.ground.specs.Cell.{cells, isMessage}
+use Rattle.ground.specs.Cell.{isMessage}
 use Rattle.ground.specs.First.{refusal, applies}
 use Rattle.protocol.specs.Supply.{counted, next-counted}
 use Rattle.protocol.proofs.Refusals.{passed}
@@ -22,11 +21,6 @@ use Rattle.ends.specs.declared.console.Mode.the-variants.{Idle, NeedI, S
 use Rattle.ends.specs.declared.console.End.{End}
 use Rattle.ends.specs.declared.console.Act.{Act}
 use Rattle.ends.specs.declared.console.Act.the-variants.{Put, SendNeedI, SendData, Take, GoDown, ComeBack}
-
--- 16 bytes that are cells are a message
-pub message-tested : {r : Bool} (m : List ℕ) → length m ≡ 16 → r ≡ cells m → r ≡ isMessage m
-unfolding isMessage
-message-tested m l e = rw (eq-eqb (length m) 16 l) e
 
 abbrev pub stepped : End → List ℕ → Act → List ℕ → rules.ConsoleActed ℕ (List ℕ)
 stepped e h a m = rules.console-step counted isMessage (in-console (λ _. h) (end e)) (in-console-act (λ _. m) (act a))

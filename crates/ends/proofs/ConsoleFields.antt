@@ -3,9 +3,9 @@ use Prim.Native.Nat.{ℕ, _≤_, _<_}
 use mathlib.Core.Path.{_≡_, refl, sym, ap, _∙_, subst}
 use mathlib.Core.Bool.{Bool, true, false, not, _&&_}
 use native.Mathlib.Omega.{arith}
-use borrow.Author.Tests.{eq-eqb, ne-eqb, le-leb, lt-leb, not-true, not-false, eqb-true, eqb-false, leb-true}
+use borrow.Author.Tests.{eq-eqb, ne-eqb, le-leb, lt-leb, not-true, not-false, eqb-true, eqb-false, leb-true, ltb-true, ltb-false}
 use lib.ListN.{length, replicate}
-use lib.Dec.{eqb, leb}
+use lib.Dec.{eqb, leb, ltb}
 use Rattle.ground.proofs.Tests.{by-test, and-left, and-right}
 use Rattle.ground.proofs.Every.{filled-is}
 use Rattle.ends.specs.declared.console.End.{End}
@@ -26,56 +26,60 @@ module _ (c : Console) {r : Bool} (held : c .held ≡ true) (long : length (c .m
   unfolding consoleRead consoleOk isMessage if_then_else_
   no-cells f = rw (held, eq-eqb (length (c .message)) 16 long, ← tested, not-true r f)
 
-  pub neither : not r ≡ false → c .j .0 ≡ 0 → c .last .0 ≡ 0 → IllFormed ≡ consoleRead c
+  pub neither : {p q : Bool} → not r ≡ false → p ≡ eqb (c .j .0) 0 → p ≡ true → q ≡ eqb (c .last .0) 0 → q ≡ true → IllFormed ≡ consoleRead c
   unfolding consoleRead consoleOk isMessage if_then_else_
-  neither f j l = rw (held, eq-eqb (length (c .message)) 16 long, ← tested, not-false r f, eq-eqb (c .j .0) 0 j, eq-eqb (c .last .0) 0 l)
+  neither f j y l z = rw (held, eq-eqb (length (c .message)) 16 long, ← tested, not-false r f, ← j, y, ← l, z)
 
-  pub in-send : {x : ConsoleRead} → not r ≡ false → c .j .0 ≡ 0 → (c .last .0 ≡ 0 → ⊥) → x ≡ Is (record { used = c .used; mode = Send (c .last); up = c .up }) → x ≡ consoleRead c
+  pub in-send : {p q : Bool} {x : ConsoleRead} → not r ≡ false → p ≡ eqb (c .j .0) 0 → p ≡ true → q ≡ eqb (c .last .0) 0 → q ≡ false → x ≡ Is (record { used = c .used; mode = Send (c .last); up = c .up }) → x ≡ consoleRead c
   unfolding consoleRead consoleOk consoleMode isMessage if_then_else_
-  in-send f j l h =
+  in-send f j y l n h =
+      let z = eqb-true (c .j .0) 0 (sym j ∙ y) in
       rw (
         held,
         eq-eqb (length (c .message)) 16 long,
         ← tested,
         not-false r f,
-        eq-eqb (c .j .0) 0 j,
-        ne-eqb (c .last .0) 0 l,
-        le-leb (c .j .0) (c .used .0) (omega arith),
+        ← j,
+        y,
+        ← l,
+        n,
+        le-leb (c .j .0) (c .used .0) (omega (arith, z)),
       ) h
 
-  pub both : not r ≡ false → (c .j .0 ≡ 0 → ⊥) → (c .last .0 ≡ 0 → ⊥) → IllFormed ≡ consoleRead c
+  pub both : {p q : Bool} → not r ≡ false → p ≡ eqb (c .j .0) 0 → p ≡ false → q ≡ eqb (c .last .0) 0 → not q ≡ true → IllFormed ≡ consoleRead c
   unfolding consoleRead consoleOk isMessage if_then_else_
-  both f j l = rw (held, eq-eqb (length (c .message)) 16 long, ← tested, not-false r f, ne-eqb (c .j .0) 0 j, ne-eqb (c .last .0) 0 l)
+  both {q = q} f j n l s = rw (held, eq-eqb (length (c .message)) 16 long, ← tested, not-false r f, ← j, n, ← l, not-true q s)
 
-  pub above : not r ≡ false → (c .j .0 ≡ 0 → ⊥) → c .last .0 ≡ 0 → c .used .0 < c .j .0 → IllFormed ≡ consoleRead c
+  pub above : {p q u : Bool} → not r ≡ false → p ≡ eqb (c .j .0) 0 → p ≡ false → q ≡ eqb (c .last .0) 0 → not q ≡ false → u ≡ ltb (c .used .0) (c .j .0) → u ≡ true → IllFormed ≡ consoleRead c
   unfolding consoleRead consoleOk isMessage if_then_else_
-  above f j l u =
-      rw (held, eq-eqb (length (c .message)) 16 long, ← tested, not-false r f, ne-eqb (c .j .0) 0 j, eq-eqb (c .last .0) 0 l, lt-leb (c .j .0) (c .used .0) u)
+  above {q = q} f j n l z u y =
+      rw (held, eq-eqb (length (c .message)) 16 long, ← tested, not-false r f, ← j, n, ← l, not-false q z, lt-leb (c .j .0) (c .used .0) (ltb-true _ _ (sym u ∙ y)))
 
-  pub in-needI : {x : ConsoleRead} → not r ≡ false → (c .j .0 ≡ 0 → ⊥) → c .last .0 ≡ 0 → c .j .0 ≤ c .used .0 → x ≡ Is (record { used = c .used; mode = NeedI (c .j); up = c .up }) → x ≡ consoleRead c
+  pub in-needI : {p q u : Bool} {x : ConsoleRead} → not r ≡ false → p ≡ eqb (c .j .0) 0 → p ≡ false → q ≡ eqb (c .last .0) 0 → not q ≡ false → u ≡ ltb (c .used .0) (c .j .0) → u ≡ false → x ≡ Is (record { used = c .used; mode = NeedI (c .j); up = c .up }) → x ≡ consoleRead c
   unfolding consoleRead consoleOk consoleMode isMessage if_then_else_
-  in-needI f j l u h =
-      rw (held, eq-eqb (length (c .message)) 16 long, ← tested, not-false r f, ne-eqb (c .j .0) 0 j, eq-eqb (c .last .0) 0 l, le-leb (c .j .0) (c .used .0) u) h
+  in-needI {q = q} f j n l z u m h =
+      rw (held, eq-eqb (length (c .message)) 16 long, ← tested, not-false r f, ← j, n, ← l, not-false q z, le-leb (c .j .0) (c .used .0) (ltb-false _ _ (sym u ∙ m))) h
 
 pub ruleset holding = (no-cells, neither, in-send, both, above, in-needI)
 
 module _ (c : Console) (free : c .held ≡ false) where
-  pub j-set : (c .j .0 ≡ 0 → ⊥) → IllFormed ≡ consoleRead c
+  pub j-set : {p : Bool} → p ≡ eqb (c .j .0) 0 → not p ≡ true → IllFormed ≡ consoleRead c
   unfolding consoleRead consoleOk if_then_else_
-  j-set j = rw (free, ne-eqb (c .j .0) 0 j)
+  j-set {p} j s = rw (free, ← j, not-true p s)
 
-  pub last-set : c .j .0 ≡ 0 → (c .last .0 ≡ 0 → ⊥) → IllFormed ≡ consoleRead c
+  pub last-set : {p q : Bool} → p ≡ eqb (c .j .0) 0 → not p ≡ false → q ≡ eqb (c .last .0) 0 → not q ≡ true → IllFormed ≡ consoleRead c
   unfolding consoleRead consoleOk if_then_else_
-  last-set j l = rw (free, eq-eqb (c .j .0) 0 j, ne-eqb (c .last .0) 0 l)
+  last-set {p} {q} j z l s = rw (free, ← j, not-false p z, ← l, not-true q s)
 
-  pub no-spaces : {r : Bool} → r ≡ filled 0x20 (c .message) → c .j .0 ≡ 0 → c .last .0 ≡ 0 → not r ≡ true → IllFormed ≡ consoleRead c
+  pub no-spaces : {p q r : Bool} → p ≡ eqb (c .j .0) 0 → not p ≡ false → q ≡ eqb (c .last .0) 0 → not q ≡ false → r ≡ filled 0x20 (c .message) → not r ≡ true → IllFormed ≡ consoleRead c
   unfolding consoleRead consoleOk if_then_else_
-  no-spaces {r} t j l f = rw (free, eq-eqb (c .j .0) 0 j, eq-eqb (c .last .0) 0 l, ← t, not-true r f)
+  no-spaces {p} {q} {r} j y l z t f = rw (free, ← j, not-false p y, ← l, not-false q z, ← t, not-true r f)
 
-  pub is-idle : {r : Bool} {x : ConsoleRead} → r ≡ filled 0x20 (c .message) → c .j .0 ≡ 0 → c .last .0 ≡ 0 → not r ≡ false → x ≡ Is (record { used = c .used; mode = Idle; up = c .up }) → x ≡ consoleRead c
+  pub is-idle : {p q r : Bool} {x : ConsoleRead} → p ≡ eqb (c .j .0) 0 → not p ≡ false → q ≡ eqb (c .last .0) 0 → not q ≡ false → r ≡ filled 0x20 (c .message) → not r ≡ false → x ≡ Is (record { used = c .used; mode = Idle; up = c .up }) → x ≡ consoleRead c
   unfolding consoleRead consoleOk consoleMode if_then_else_
-  is-idle {r} t j l f h =
-      rw (free, eq-eqb (c .j .0) 0 j, eq-eqb (c .last .0) 0 l, ← t, not-false r f, le-leb (c .j .0) (c .used .0) (omega arith)) h
+  is-idle {p} {q} {r} j y l z t f h =
+      let n = eqb-true (c .j .0) 0 (sym j ∙ not-false p y) in
+      rw (free, ← j, not-false p y, ← l, not-false q z, ← t, not-false r f, le-leb (c .j .0) (c .used .0) (omega (arith, n))) h
 
 pub ruleset not-holding = (j-set, last-set, no-spaces, is-idle)
 
@@ -182,12 +186,12 @@ module _ (c : Console) where
   unfolding consoleMode if_then_else_
   mode-idle n = rw (not-true (c .held) n)
 
-  pub mode-send : not (c .held) ≡ false → c .j .0 ≡ 0 → record { used = c .used; mode = Send (c .last); up = c .up } ≡ consoleEnd c
+  pub mode-send : {p : Bool} → not (c .held) ≡ false → p ≡ eqb (c .j .0) 0 → p ≡ true → record { used = c .used; mode = Send (c .last); up = c .up } ≡ consoleEnd c
   unfolding consoleMode if_then_else_
-  mode-send n j = rw (not-false (c .held) n, eq-eqb (c .j .0) 0 j)
+  mode-send n j y = rw (not-false (c .held) n, ← j, y)
 
-  pub mode-needI : not (c .held) ≡ false → (c .j .0 ≡ 0 → ⊥) → record { used = c .used; mode = NeedI (c .j); up = c .up } ≡ consoleEnd c
+  pub mode-needI : {p : Bool} → not (c .held) ≡ false → p ≡ eqb (c .j .0) 0 → p ≡ false → record { used = c .used; mode = NeedI (c .j); up = c .up } ≡ consoleEnd c
   unfolding consoleMode if_then_else_
-  mode-needI n j = rw (not-false (c .held) n, ne-eqb (c .j .0) 0 j)
+  mode-needI n j s = rw (not-false (c .held) n, ← j, s)
 
 pub ruleset modes = (mode-idle, mode-send, mode-needI)

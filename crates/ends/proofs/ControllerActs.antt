@@ -1,10 +1,10 @@
 -- What the controller's acts come to: a mode that is read from the code and back is the same.
 use Prim.Native.Nat.{ℕ, _+_}
 use mathlib.Core.Path.{_≡_, refl, sym, _∙_}
-use mathlib.Core.Bool.{false}
+use mathlib.Core.Bool.{Bool, true, false}
 use mathlib.Core.Option.{Option, none, some}
 use native.Mathlib.Numerals.{add-one}
-use borrow.Author.Tests.{eq-eqb, ne-eqb}
+use lib.Dec.{eqb}
 use Rattle.ground.specs.Choice.{if_then_else_}
 use Rattle.protocol.specs.Supply.{counted, next-counted}
 use Rattle.protocol.proofs.Lists.{if-holds}
@@ -115,9 +115,9 @@ needI-dropped e n d h =
     ∙ λ i. acted (record { report = sym d i .report; sent = sym d i .sent; after = end-after counted same (end e) (sym d i) })
 
 module _ {x : Acted} (e : End) (own : J) where
-  pub needI-spent : e .mode ≡ Idle → e .used .0 ≡ 4294967295 → x ≡ only-sent for-console.Nothing e → x ≡ taken e (needI (own .0))
+  pub needI-spent : {s : Bool} → e .mode ≡ Idle → s ≡ eqb (e .used .0) 4294967295 → s ≡ true → x ≡ only-sent for-console.Nothing e → x ≡ taken e (needI (own .0))
   unfolding controller-takes next-counted if_then_else_
-  needI-spent m s h = needI-dropped e (own .0) (rw (m, eq-eqb (e .used .0) 4294967295 s)) h
+  needI-spent m s y h = needI-dropped e (own .0) (rw (m, ← s, y)) h
 
   pub needI-accept : {j : J} {i : I} → e .mode ≡ Accept j i → x ≡ only-sent for-console.Nothing e → x ≡ taken e (needI (own .0))
   unfolding controller-takes
@@ -127,6 +127,6 @@ module _ {x : Acted} (e : End) (own : J) where
   unfolding controller-takes
   needI-ack m h = needI-dropped e (own .0) (rw m) h
 
-  pub needI-next : e .mode ≡ Idle → (e .used .0 ≡ 4294967295 → ⊥) → x ≡ only-sent for-console.Nothing (record { used = record { 0 = e .used .0 + 1 }; mode = Accept own (record { 0 = e .used .0 + 1 }); up = e .up }) → x ≡ taken e (needI (own .0))
+  pub needI-next : {s : Bool} → e .mode ≡ Idle → s ≡ eqb (e .used .0) 4294967295 → s ≡ false → x ≡ only-sent for-console.Nothing (record { used = record { 0 = e .used .0 + 1 }; mode = Accept own (record { 0 = e .used .0 + 1 }); up = e .up }) → x ≡ taken e (needI (own .0))
   unfolding controller-acts controller-turn controller-takes end-after numbers-after up-after next-counted if_then_else_
-  needI-next m s h = h ∙ rw (m, ne-eqb (e .used .0) 4294967295 s, add-one)
+  needI-next m s n h = h ∙ rw (m, ← s, n, add-one)

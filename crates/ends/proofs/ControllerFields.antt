@@ -3,8 +3,8 @@ use Prim.Native.Nat.{ℕ, _≤_, _<_}
 use mathlib.Core.Path.{_≡_, refl, sym, ap, subst, _∙_}
 use mathlib.Core.Bool.{Bool, true, false, not, _&&_}
 use native.Mathlib.Omega.{arith}
-use borrow.Author.Tests.{eq-eqb, ne-eqb, le-leb, lt-leb, not-true, eqb-true, eqb-false}
-use lib.Dec.{eqb, leb}
+use borrow.Author.Tests.{ne-eqb, le-leb, lt-leb, not-true, not-false, eqb-true, eqb-false, ltb-true, ltb-false}
+use lib.Dec.{eqb, leb, ltb}
 use Rattle.ground.proofs.Tests.{by-test, and-left, and-right}
 use Rattle.ground.specs.Choice.{if_then_else_}
 use Rattle.wire.specs.declared.I.{I}
@@ -16,63 +16,63 @@ use Rattle.ends.specs.declared.fields.ControllerRead.{ControllerRead}
 use Rattle.ends.specs.declared.fields.ControllerRead.the-variants.{IllFormed, Is}
 use Rattle.ends.specs.Fields.{controllerWasRead, controllerOk, controllerMode, controllerEnd, controllerRead, controllerWith, controllerFields}
 
-module _ (c : Controller) (set : c .i .0 ≡ 0 → ⊥) where
-  pub no-j : c .j .0 ≡ 0 → IllFormed ≡ controllerRead c
-  unfolding controllerRead controllerOk if_then_else_
-  no-j j = rw (ne-eqb (c .i .0) 0 set, eq-eqb (c .j .0) 0 j)
+-- the code's test of an i that is set
+pub is-accepting : {p : Bool} (c : Controller) → p ≡ eqb (c .i .0) 0 → not p ≡ true → eqb (c .i .0) 0 ≡ false
+is-accepting {p} c e s = sym e ∙ not-true p s
 
-  pub both : (c .j .0 ≡ 0 → ⊥) → (c .last .0 ≡ 0 → ⊥) → IllFormed ≡ controllerRead c
+module _ (c : Controller) {p : Bool} (set : eqb (c .i .0) 0 ≡ false) (j : p ≡ eqb (c .j .0) 0) where
+  pub no-j : p ≡ true → IllFormed ≡ controllerRead c
   unfolding controllerRead controllerOk if_then_else_
-  both j l = rw (ne-eqb (c .i .0) 0 set, ne-eqb (c .j .0) 0 j, ne-eqb (c .last .0) 0 l)
+  no-j y = rw (set, ← j, y)
 
-  pub i-above : (c .j .0 ≡ 0 → ⊥) → c .last .0 ≡ 0 → c .used .0 < c .i .0 → IllFormed ≡ controllerRead c
-  unfolding controllerRead controllerOk if_then_else_
-  i-above j l u = rw (ne-eqb (c .i .0) 0 set, ne-eqb (c .j .0) 0 j, eq-eqb (c .last .0) 0 l, lt-leb (c .i .0) (c .used .0) u)
+  module _ {q : Bool} (n : p ≡ false) (l : q ≡ eqb (c .last .0) 0) where
+    pub both : not q ≡ true → IllFormed ≡ controllerRead c
+    unfolding controllerRead controllerOk if_then_else_
+    both s = rw (set, ← j, n, ← l, not-true q s)
 
-  pub in-accept : {x : ControllerRead} → (c .j .0 ≡ 0 → ⊥) → c .last .0 ≡ 0 → c .i .0 ≤ c .used .0 → x ≡ Is (record { used = c .used; mode = Accept (c .j) (c .i); up = c .up }) → x ≡ controllerRead c
-  unfolding controllerRead controllerOk controllerMode if_then_else_
-  in-accept j l u h =
-      rw (
-        ne-eqb (c .i .0) 0 set,
-        ne-eqb (c .j .0) 0 j,
-        eq-eqb (c .last .0) 0 l,
-        le-leb (c .i .0) (c .used .0) u,
-        le-leb (c .last .0) (c .used .0) (omega arith),
-      ) h
+    pub i-above : {u : Bool} → not q ≡ false → u ≡ ltb (c .used .0) (c .i .0) → u ≡ true → IllFormed ≡ controllerRead c
+    unfolding controllerRead controllerOk if_then_else_
+    i-above z u y = rw (set, ← j, n, ← l, not-false q z, lt-leb (c .i .0) (c .used .0) (ltb-true _ _ (sym u ∙ y)))
+
+    pub in-accept : {u : Bool} {x : ControllerRead} → not q ≡ false → u ≡ ltb (c .used .0) (c .i .0) → u ≡ false → x ≡ Is (record { used = c .used; mode = Accept (c .j) (c .i); up = c .up }) → x ≡ controllerRead c
+    unfolding controllerRead controllerOk controllerMode if_then_else_
+    in-accept z u m h =
+        let w = eqb-true (c .last .0) 0 (sym l ∙ not-false q z) in
+        rw (
+          set,
+          ← j,
+          n,
+          ← l,
+          not-false q z,
+          le-leb (c .i .0) (c .used .0) (ltb-false _ _ (sym u ∙ m)),
+          le-leb (c .last .0) (c .used .0) (omega (arith, w)),
+        ) h
 
 pub ruleset accepting = (no-j, both, i-above, in-accept)
 
-module _ (c : Controller) (none : c .i .0 ≡ 0) where
-  pub only-j : (c .j .0 ≡ 0 → ⊥) → IllFormed ≡ controllerRead c
+module _ (c : Controller) {o p : Bool} (i : o ≡ eqb (c .i .0) 0) (none : not o ≡ false) (j : p ≡ eqb (c .j .0) 0) where
+  pub only-j : not p ≡ true → IllFormed ≡ controllerRead c
   unfolding controllerRead controllerOk if_then_else_
-  only-j j = rw (eq-eqb (c .i .0) 0 none, ne-eqb (c .j .0) 0 j)
+  only-j s = rw (← i, not-false o none, ← j, not-true p s)
 
-  pub is-idle : {x : ControllerRead} → c .j .0 ≡ 0 → c .last .0 ≡ 0 → x ≡ Is (record { used = c .used; mode = Idle; up = c .up }) → x ≡ controllerRead c
-  unfolding controllerRead controllerOk controllerMode if_then_else_
-  is-idle j l h =
-      rw (
-        eq-eqb (c .i .0) 0 none,
-        eq-eqb (c .j .0) 0 j,
-        eq-eqb (c .last .0) 0 l,
-        le-leb (c .i .0) (c .used .0) (omega arith),
-        le-leb (c .last .0) (c .used .0) (omega arith),
-      ) h
+  i-within : leb (c .i .0) (c .used .0) ≡ true
+  i-within = let z = eqb-true (c .i .0) 0 (sym i ∙ not-false o none) in le-leb (c .i .0) (c .used .0) (omega (arith, z))
 
-  pub last-above : c .j .0 ≡ 0 → (c .last .0 ≡ 0 → ⊥) → c .used .0 < c .last .0 → IllFormed ≡ controllerRead c
-  unfolding controllerRead controllerOk if_then_else_
-  last-above j l u =
-      rw (eq-eqb (c .i .0) 0 none, eq-eqb (c .j .0) 0 j, le-leb (c .i .0) (c .used .0) (omega arith), lt-leb (c .last .0) (c .used .0) u)
+  module _ {q : Bool} (y : not p ≡ false) (l : q ≡ eqb (c .last .0) 0) where
+    pub is-idle : {x : ControllerRead} → q ≡ true → x ≡ Is (record { used = c .used; mode = Idle; up = c .up }) → x ≡ controllerRead c
+    unfolding controllerRead controllerOk controllerMode if_then_else_
+    is-idle z h =
+        let w = eqb-true (c .last .0) 0 (sym l ∙ z) in
+        rw (i-within, ← i, not-false o none, ← j, not-false p y, ← l, z, le-leb (c .last .0) (c .used .0) (omega (arith, w))) h
 
-  pub in-ack : {x : ControllerRead} → c .j .0 ≡ 0 → (c .last .0 ≡ 0 → ⊥) → c .last .0 ≤ c .used .0 → x ≡ Is (record { used = c .used; mode = Ack (c .last); up = c .up }) → x ≡ controllerRead c
-  unfolding controllerRead controllerOk controllerMode if_then_else_
-  in-ack j l u h =
-      rw (
-        eq-eqb (c .i .0) 0 none,
-        eq-eqb (c .j .0) 0 j,
-        ne-eqb (c .last .0) 0 l,
-        le-leb (c .i .0) (c .used .0) (omega arith),
-        le-leb (c .last .0) (c .used .0) u,
-      ) h
+    pub last-above : {u : Bool} → q ≡ false → u ≡ ltb (c .used .0) (c .last .0) → u ≡ true → IllFormed ≡ controllerRead c
+    unfolding controllerRead controllerOk if_then_else_
+    last-above n u t = rw (i-within, ← i, not-false o none, ← j, not-false p y, lt-leb (c .last .0) (c .used .0) (ltb-true _ _ (sym u ∙ t)))
+
+    pub in-ack : {u : Bool} {x : ControllerRead} → q ≡ false → u ≡ ltb (c .used .0) (c .last .0) → u ≡ false → x ≡ Is (record { used = c .used; mode = Ack (c .last); up = c .up }) → x ≡ controllerRead c
+    unfolding controllerRead controllerOk controllerMode if_then_else_
+    in-ack n u m h =
+        rw (i-within, ← i, not-false o none, ← j, not-false p y, ← l, n, le-leb (c .last .0) (c .used .0) (ltb-false _ _ (sym u ∙ m))) h
 
 pub ruleset not-accepting = (only-j, is-idle, last-above, in-ack)
 
@@ -165,16 +165,16 @@ was-ok c f g = g ∙ ap controllerWasRead f ∙ was-read-so c
 
 -- the mode, of fields that are not tested
 module _ (c : Controller) where
-  pub mode-accept : (c .i .0 ≡ 0 → ⊥) → record { used = c .used; mode = Accept (c .j) (c .i); up = c .up } ≡ controllerEnd c
+  pub mode-accept : {o : Bool} → o ≡ eqb (c .i .0) 0 → not o ≡ true → record { used = c .used; mode = Accept (c .j) (c .i); up = c .up } ≡ controllerEnd c
   unfolding controllerMode if_then_else_
-  mode-accept i = rw (ne-eqb (c .i .0) 0 i)
+  mode-accept {o} i s = rw (← i, not-true o s)
 
-  pub mode-idle : c .i .0 ≡ 0 → c .last .0 ≡ 0 → record { used = c .used; mode = Idle; up = c .up } ≡ controllerEnd c
+  pub mode-idle : {o q : Bool} → o ≡ eqb (c .i .0) 0 → not o ≡ false → q ≡ eqb (c .last .0) 0 → q ≡ true → record { used = c .used; mode = Idle; up = c .up } ≡ controllerEnd c
   unfolding controllerMode if_then_else_
-  mode-idle i l = rw (eq-eqb (c .i .0) 0 i, eq-eqb (c .last .0) 0 l)
+  mode-idle {o} i n l z = rw (← i, not-false o n, ← l, z)
 
-  pub mode-ack : c .i .0 ≡ 0 → (c .last .0 ≡ 0 → ⊥) → record { used = c .used; mode = Ack (c .last); up = c .up } ≡ controllerEnd c
+  pub mode-ack : {o q : Bool} → o ≡ eqb (c .i .0) 0 → not o ≡ false → q ≡ eqb (c .last .0) 0 → q ≡ false → record { used = c .used; mode = Ack (c .last); up = c .up } ≡ controllerEnd c
   unfolding controllerMode if_then_else_
-  mode-ack i l = rw (eq-eqb (c .i .0) 0 i, ne-eqb (c .last .0) 0 l)
+  mode-ack {o} i n l s = rw (← i, not-false o n, ← l, s)
 
 pub ruleset modes = (mode-accept, mode-idle, mode-ack)

@@ -5,6 +5,10 @@ use Rattle.ends.proofs.beside.to_controller.Kinds as to-controller-kind
 use Rattle.ends.proofs.beside.to_controller.Reads as to-controller
 use Rattle.ends.proofs.beside.to_console.Kinds as to-console-kinds
 use Rattle.ends.proofs.beside.to_console.Reads as to-console
+use Rattle.ends.proofs.beside.for_controller.Kinds as for-controller-kinds
+use Rattle.ends.proofs.beside.for_controller.Reads as for-controller
+use Rattle.ends.proofs.beside.for_console.Kinds as for-console-kinds
+use Rattle.ends.proofs.beside.for_console.Reads as for-console
 use Rattle.ends.proofs.beside.delivers.Kinds as delivers-kinds
 use Rattle.ends.proofs.beside.delivers.Reads as delivers
 use Rattle.ends.proofs.console.acts.Kinds as console-acts-kinds
@@ -103,6 +107,12 @@ to-controller-determined κs a x y s t p q = p ∙ sym q
 
 pub to-console-determined : Determined to-console-kinds.ps to-console-kinds.r to-console.Post
 to-console-determined κs a x y s t p q = p ∙ sym q
+
+pub for-controller-determined : Determined for-controller-kinds.ps for-controller-kinds.r for-controller.Post
+for-controller-determined κs a x y s t p q = p ∙ sym q
+
+pub for-console-determined : Determined for-console-kinds.ps for-console-kinds.r for-console.Post
+for-console-determined κs a x y s t p q = p ∙ sym q
 
 pub delivers-determined : Determined delivers-kinds.ps delivers-kinds.r delivers.Post
 delivers-determined κs a x y s t p q = p ∙ sym q

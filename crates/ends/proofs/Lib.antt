@@ -6,5 +6,9 @@ pub mod ControllerActs
 pub mod ControllerBeside
 pub mod ControllerFields
 pub mod ControllerRefusals
+pub mod Counting
 pub mod Determined
+pub mod Directions
 pub mod Telling
+pub mod WrongKinds
+pub mod Wrong

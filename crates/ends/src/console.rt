@@ -4,6 +4,9 @@ use crate::ForController;
 use crate::Report;
 use crate::ToConsole;
 use crate::ToController;
+use crate::numbers::j_spent;
+use crate::numbers::same_i;
+use crate::numbers::same_j;
 use wire::I;
 use wire::J;
 ghost use mathlib.Core.Path.{_≡_};
@@ -77,14 +80,14 @@ fn takes_offer(now: Mode, j: J, i: I) -> Turn
     match now {
         Mode::Idle => sends_done(Mode::Idle, i),
         Mode::NeedI(own) => {
-            if j.0 == own.0 {
+            if same_j(j, own) {
                 drops(Mode::Send(i))
             } else {
                 sends_done(Mode::NeedI(own), i)
             }
         }
         Mode::Send(sending) => {
-            if i.0 == sending.0 {
+            if same_i(i, sending) {
                 drops(Mode::Send(sending))
             } else {
                 sends_done(Mode::Send(sending), i)
@@ -100,7 +103,7 @@ fn takes_ok(now: Mode, i: I) -> Turn
         Mode::Idle => sends_done(Mode::Idle, i),
         Mode::NeedI(own) => sends_done(Mode::NeedI(own), i),
         Mode::Send(last) => {
-            if i.0 == last.0 {
+            if same_i(i, last) {
                 Turn {
                     mode: Mode::Idle,
                     report: Report::Ok,
@@ -120,7 +123,7 @@ fn takes_lost(now: Mode, i: I) -> Turn
         Mode::Idle => drops(Mode::Idle),
         Mode::NeedI(own) => drops(Mode::NeedI(own)),
         Mode::Send(last) => {
-            if i.0 == last.0 {
+            if same_i(i, last) {
                 Turn {
                     mode: Mode::Idle,
                     report: Report::Lost,
@@ -178,7 +181,7 @@ fn puts(e: End) -> Acted
     ensures { λ r. ⌜ r ≡ acted (console-acts counted (end e) (put tt)) ⌝ }
 {
     let used = e.used;
-    if used.0 == 4294967295 {
+    if j_spent(used) {
         return stays(e, ForController::Nothing);
     }
     let next = J(used.0 + 1);
@@ -269,7 +272,7 @@ fn put_refusal(e: End, good: bool) -> u8
     }
     let mode = e.mode;
     match mode {
-        Mode::Idle => { if e.used.0 == 4294967295 { 8 } else { 0 } }
+        Mode::Idle => { if j_spent(e.used) { 8 } else { 0 } }
         Mode::NeedI(_) => 6,
         Mode::Send(_) => 6,
     }

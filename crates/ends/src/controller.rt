@@ -4,6 +4,9 @@ use crate::ForController;
 use crate::Report;
 use crate::ToConsole;
 use crate::ToController;
+use crate::numbers::above_i;
+use crate::numbers::i_spent;
+use crate::numbers::same_i;
 use wire::I;
 use wire::J;
 ghost use mathlib.Core.Path.{_≡_};
@@ -79,7 +82,7 @@ fn takes_data(now: Mode, i: I) -> Turn
     match now {
         Mode::Idle => sends_lost(Mode::Idle, i),
         Mode::Accept(j, own) => {
-            if i.0 == own.0 {
+            if same_i(i, own) {
                 Turn {
                     mode: Mode::Ack(i),
                     report: Report::Delivered,
@@ -90,7 +93,7 @@ fn takes_data(now: Mode, i: I) -> Turn
             }
         }
         Mode::Ack(delivered) => {
-            if i.0 == delivered.0 {
+            if same_i(i, delivered) {
                 drops(Mode::Ack(delivered))
             } else {
                 sends_lost(Mode::Ack(delivered), i)
@@ -105,14 +108,14 @@ fn takes_done(now: Mode, i: I) -> Turn
     match now {
         Mode::Idle => drops(Mode::Idle),
         Mode::Accept(j, own) => {
-            if i.0 == own.0 {
+            if same_i(i, own) {
                 drops(Mode::Idle)
             } else {
                 drops(Mode::Accept(j, own))
             }
         }
         Mode::Ack(last) => {
-            if i.0 == last.0 {
+            if same_i(i, last) {
                 drops(Mode::Idle)
             } else {
                 drops(Mode::Ack(last))
@@ -160,7 +163,7 @@ fn takes_needi(e: End, j: J) -> Acted
     let mode = e.mode;
     match mode {
         Mode::Idle => {
-            if used.0 == 4294967295 {
+            if i_spent(used) {
                 return stays(e, ForConsole::Nothing);
             }
             let next = I(used.0 + 1);
@@ -266,8 +269,8 @@ fn is_unknown(used: I, p: ToController) -> bool
 {
     match p {
         ToController::NeedI(_) => false,
-        ToController::Data(i) => i.0 > used.0,
-        ToController::Done(i) => i.0 > used.0,
+        ToController::Data(i) => above_i(i, used),
+        ToController::Done(i) => above_i(i, used),
     }
 }
 

@@ -1,10 +1,15 @@
 // The two ends as document 01 has them: fields, 0 for none.
 use crate::console;
 use crate::controller;
+use crate::numbers::above_i;
+use crate::numbers::above_j;
+use crate::numbers::no_i;
+use crate::numbers::no_j;
 use wire::I;
 use wire::J;
 ghost use mathlib.Core.Path.{_≡_};
 ghost use mathlib.Core.Bool.{true, false};
+ghost use lib.Dec.{eqb};
 ghost use Rattle.ends.specs.Fields.{consoleOk, consoleRead, consoleWasRead, consoleEnd, consoleFields, freshConsole, downedConsole};
 ghost use Rattle.ends.specs.Fields.{controllerOk, controllerRead, controllerWasRead, controllerEnd, controllerFields, freshController, downedController};
 
@@ -40,16 +45,16 @@ fn read_holding(c: Console) -> ConsoleRead
     if !ground::all_cells(&m) {
         return ConsoleRead::IllFormed;
     }
-    if j.0 == 0 {
-        if last.0 == 0 {
+    if no_j(j) {
+        if no_i(last) {
             return ConsoleRead::IllFormed;
         }
         return console_is(c, console::Mode::Send(last));
     }
-    if last.0 != 0 {
+    if !no_i(last) {
         return ConsoleRead::IllFormed;
     }
-    if c.used.0 < j.0 {
+    if above_j(j, c.used) {
         return ConsoleRead::IllFormed;
     }
     console_is(c, console::Mode::NeedI(j))
@@ -60,10 +65,10 @@ fn read_idle(c: Console) -> ConsoleRead
     ensures { λ r. ⌜ r ≡ consoleRead c ⌝ }
 {
     let m = c.message;
-    if c.j.0 != 0 {
+    if !no_j(c.j) {
         return ConsoleRead::IllFormed;
     }
-    if c.last.0 != 0 {
+    if !no_i(c.last) {
         return ConsoleRead::IllFormed;
     }
     if !ground::all_are(&m, 0x20) {
@@ -115,7 +120,7 @@ pub fn console_end(c: Console) -> console::End
             up,
         };
     }
-    if j.0 == 0 {
+    if no_j(j) {
         return console::End {
             used,
             mode: console::Mode::Send(last),
@@ -215,18 +220,18 @@ fn controller_is(c: Controller, mode: controller::Mode) -> ControllerRead
 
 // Of a controller whose i is set.
 fn read_accepting(c: Controller) -> ControllerRead
-    requires { ⌜ (c .i .0 ≡ 0 → ⊥) ⌝ }
+    requires { ⌜ eqb (c .i .0) 0 ≡ false ⌝ }
     ensures { λ r. ⌜ r ≡ controllerRead c ⌝ }
 {
     let j = c.j;
     let i = c.i;
-    if j.0 == 0 {
+    if no_j(j) {
         return ControllerRead::IllFormed;
     }
-    if c.last.0 != 0 {
+    if !no_i(c.last) {
         return ControllerRead::IllFormed;
     }
-    if c.used.0 < i.0 {
+    if above_i(i, c.used) {
         return ControllerRead::IllFormed;
     }
     controller_is(c, controller::Mode::Accept(j, i))
@@ -237,16 +242,16 @@ pub fn read_controller(c: Controller) -> ControllerRead
     ensures { λ r. ⌜ r ≡ controllerRead c ⌝ }
 {
     let last = c.last;
-    if c.i.0 != 0 {
+    if !no_i(c.i) {
         return read_accepting(c);
     }
-    if c.j.0 != 0 {
+    if !no_j(c.j) {
         return ControllerRead::IllFormed;
     }
-    if last.0 == 0 {
+    if no_i(last) {
         return controller_is(c, controller::Mode::Idle);
     }
-    if c.used.0 < last.0 {
+    if above_i(last, c.used) {
         return ControllerRead::IllFormed;
     }
     controller_is(c, controller::Mode::Ack(last))
@@ -278,14 +283,14 @@ pub fn controller_end(c: Controller) -> controller::End
     let j = c.j;
     let i = c.i;
     let last = c.last;
-    if i.0 != 0 {
+    if !no_i(i) {
         return controller::End {
             used,
             mode: controller::Mode::Accept(j, i),
             up,
         };
     }
-    if last.0 == 0 {
+    if no_i(last) {
         return controller::End {
             used,
             mode: controller::Mode::Idle,

@@ -58,12 +58,12 @@ fn turn(b: Bench, part: &[u8], number: usize, out: &mut [u8], back: &mut [u8]) -
     after
 }
 
-// Where a record that begins at `at` ends: the last may be short.
+// Where a record that begins at `at` ends, with the bounds that the loop needs.
 fn end_of(at: usize, len: usize) -> usize
     requires { ⌜ at < len ⌝ }
     ensures { λ r. ⌜ (at < r) × (r ≤ len) ⌝ }
 {
-    if len - at < 21 { len } else { at + 21 }
+    records::record_end(at, len)
 }
 
 // Plays the records on a fresh bench with 0 and 0.

@@ -4,18 +4,11 @@ use mathlib.Core.Path.{_≡_}
 use mathlib.Core.Bool.{Bool, true}
 use mathlib.Core.List.{List, [], _∷_, _++_}
 use native.Mathlib.Omega.{arith}
-use borrow.Author.Tests.{leb-true}
 use lib.ListN.{take, drop, replicate}
 use lib.Seq.{getD-drop}
-use lib.Dec.{leb}
 use Rattle.ground.specs.Bytes.{Bytes}
-use Rattle.ground.specs.Cell.{cell, cells}
 use Rattle.ground.specs.Every.{every}
 use Rattle.ground.proofs.Tests.{and-left, and-right}
-
-pub bytes-cons : (b : ℕ) (s : List ℕ) → b < 256 → Bytes s → Bytes (b ∷ s)
-bytes-cons b s h f zero = h
-bytes-cons b s h f (suc i) = f i
 
 pub bytes-append : (s t : List ℕ) → Bytes s → Bytes t → Bytes (s ++ t)
 bytes-append [] t f g i = g i
@@ -36,11 +29,6 @@ pub bytes-every : (f : ℕ → Bool) → ((b : ℕ) → f b ≡ true → b < 256
 bytes-every f h [] e i = omega arith
 bytes-every f h (b ∷ s) e zero = h b (and-left (f b) (every f s) e)
 bytes-every f h (b ∷ s) e (suc i) = bytes-every f h s (and-right (f b) (every f s) e) i
-
-pub bytes-cells : (s : List ℕ) → cells s ≡ true → Bytes s
-unfolding cells
-bytes-cells s e =
-    bytes-every cell (λ b t. let h = leb-true b 0x7E (and-right (leb 0x20 b) (leb b 0x7E) t) in omega (arith, h)) s e
 
 pub bytes-replicate : (n b : ℕ) → b < 256 → Bytes (replicate n b)
 bytes-replicate zero b h i = omega arith

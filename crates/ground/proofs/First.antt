@@ -47,10 +47,29 @@ first-more (r ∷ rs) qs h e =
     let p = none-applies (r .0) (r .1) rs (and-left (ltb 0 (r .0)) (every (λ (q : Rule). ltb 0 (q .0)) rs) h) e in
     first-passes (r .0) (r .1) (rs ++ qs) (p .0) ∙ first-more rs qs (and-right (ltb 0 (r .0)) (every (λ (q : Rule). ltb 0 (q .0)) rs) h) (p .1)
 
--- where two rules apply, `order` decides and not the place in the list; document 01's pairs, the first of which comes first. A put of a row
--- with 0x7F by a console that is down is 11, not 4
-pub order-decides : map (λ (p : ℕ × ℕ). refusal ((p .1, true) ∷ (p .0, true) ∷ []))
-    ((11, 4) ∷ (10, 4) ∷ (10, 6) ∷ (4, 6) ∷ (4, 3) ∷ (6, 8) ∷ (6, 9) ∷ (3, 7) ∷ (7, 9) ∷ [])
-    ≡ 11 ∷ 10 ∷ 10 ∷ 4 ∷ 4 ∷ 6 ∷ 6 ∷ 3 ∷ 7 ∷ []
+-- where two rules apply, `refusalOrder` decides and not the place in the list. Every pair of rules that can apply together, the one that comes first
+-- in front: a put of a row with 0x7F by a console that is down is 11, not 4. The last two can't apply together, and stand as document 01 prints them
+abbrev pairs : List (ℕ × ℕ)
+pairs =
+    (11, 4)
+    ∷ (11, 6)
+    ∷ (11, 8)
+    ∷ (10, 4)
+    ∷ (10, 6)
+    ∷ (10, 3)
+    ∷ (10, 7)
+    ∷ (10, 9)
+    ∷ (4, 6)
+    ∷ (4, 8)
+    ∷ (4, 3)
+    ∷ (4, 7)
+    ∷ (4, 9)
+    ∷ (6, 8)
+    ∷ (7, 9)
+    ∷ (6, 9)
+    ∷ (3, 7)
+    ∷ []
+
+pub order-decides : map (λ (p : ℕ × ℕ). refusal ((p .1, true) ∷ (p .0, true) ∷ [])) pairs ≡ map (λ (p : ℕ × ℕ). p .0) pairs
 unfolding refusal first applies if_then_else_
 order-decides = refl

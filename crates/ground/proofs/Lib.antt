@@ -6,3 +6,4 @@ pub mod First
 pub mod Promise
 pub mod Tests
 pub mod Vectors
+pub mod Wrong

@@ -17,8 +17,8 @@ first (r ∷ rs) = if r .1 then r .0 else first rs
 -- ## Bench and ends: document 01's one order for all rules that speak of an action. 1, 2, 12, 13, 14 and 15 come before these, and before any of them
 -- is looked at: they are of the letter, of the bench or end, and of what is lent to an end run alone
 
-abbrev pub order : List ℕ
-order = 11 ∷ 10 ∷ 4 ∷ 5 ∷ 6 ∷ 8 ∷ 3 ∷ 7 ∷ 9 ∷ []
+abbrev pub refusalOrder : List ℕ
+refusalOrder = 11 ∷ 10 ∷ 4 ∷ 5 ∷ 6 ∷ 8 ∷ 3 ∷ 7 ∷ 9 ∷ []
 
 -- does the rule of this number apply? Not where none of that number speaks of the action
 unfoldable pub applies : List Rule → ℕ → Bool
@@ -27,4 +27,4 @@ applies (r ∷ rs) n = if eqb (r .0) n then r .1 else applies rs n
 
 -- the refusal of an action by the rules that speak of it, or 0
 unfoldable pub refusal : List Rule → ℕ
-refusal rules = first (map (λ n. (n, applies rules n)) order)
+refusal rules = first (map (λ n. (n, applies rules n)) refusalOrder)

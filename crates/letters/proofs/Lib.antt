@@ -1,2 +1,3 @@
 pub mod Determined
 pub mod Scan
+pub mod Wrong

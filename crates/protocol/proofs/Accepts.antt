@@ -7,9 +7,9 @@ use mathlib.Core.List.{List, [], _∷_}
 use lib.Dec.{T, eqb, ltb}
 use borrow.Author.Tests.{eqb-true, eq-eqb, ltb-true, lt-ltb, not-true}
 use Rattle.protocol.specs.Lists.{In, listed}
-use Rattle.protocol.specs.Log.{Event, Put, Delivered, AnsweredOK, AnsweredLost, ConsoleDown, ConsoleBack, ControllerDown, ControllerBack, Log}
+use Rattle.protocol.specs.Log.{Labelled, labelled, Event, Put, Delivered, AnsweredOK, AnsweredLost, ConsoleDown, ConsoleBack, ControllerDown, ControllerBack, Log}
 use Rattle.protocol.specs.Log.{Right}
-use Rattle.protocol.specs.Judge.{Labelled, labelled, is-returned, Judge, judge, was-put, allows, accepts}
+use Rattle.protocol.specs.Judge.{is-returned, Judge, judge, was-put, allows, accepts}
 use Rattle.protocol.proofs.Judge.{Allowed, Accepted, accepted-right, right-accepted}
 
 -- ## Tests and facts

@@ -7,7 +7,8 @@ use mathlib.Core.List.{_∷_}
 use native.Mathlib.Omega.{arith}
 use Rattle.protocol.specs.Ends.{ToController, needI, order, done, ToConsole, offer, ok, lost, ConsoleMode, in-needI, in-send, ControllerMode}
 use Rattle.protocol.specs.Ends.{in-accept, in-ack}
-use Rattle.protocol.specs.Judge.{Labelled, Since, steady, Judge}
+use Rattle.protocol.specs.Log.{Labelled}
+use Rattle.protocol.specs.Judge.{Since, steady, Judge}
 use Rattle.protocol.proofs.Invariant.{Moves, Up-bears, Down-bears, nothing-on, Accepts, At, View, view, Up, Down, Core}
 
 accepts-at : (r : ControllerMode) (i : ℕ) → Accepts r i → At r i

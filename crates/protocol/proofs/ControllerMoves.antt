@@ -7,7 +7,8 @@ use lib.Dec.{T}
 use native.Mathlib.Omega.{arith}
 use Rattle.protocol.specs.Ends.{ToController, needI, order, done, ToConsole, offer, ok, lost, ConsoleMode, in-needI, in-send, ControllerMode}
 use Rattle.protocol.specs.Ends.{in-accept, in-ack}
-use Rattle.protocol.specs.Judge.{Labelled, Since, steady, fallen, returned, on-fall, on-return, Judge}
+use Rattle.protocol.specs.Log.{Labelled}
+use Rattle.protocol.specs.Judge.{Since, steady, fallen, returned, on-fall, on-return, Judge}
 use Rattle.protocol.proofs.Invariant.{Moves, Up-bears, Down-bears, Asks, Last, Holds, Needs, At, View, view, Up, Down, Returned, Live, Core}
 
 module _ {M : Type 0} where

@@ -12,8 +12,8 @@ use Rattle.protocol.specs.Letters.{Letter, P-put, Q-need, D-data, S-take
 use Rattle.protocol.specs.Ends.{Report, nothing, delivered, answered-ok, answered-lost, refused}
 use Rattle.protocol.specs.Bench.{Bench, Action, Outcome, step, reports, fresh}
 use Rattle.protocol.specs.Relabel.{in-action, in-report, in-bench, in-outcome}
-use Rattle.protocol.specs.Log.{Log, put-count}
-use Rattle.protocol.specs.Judge.{Labelled, labelled, accepts}
+use Rattle.protocol.specs.Log.{Labelled, labelled, Log, put-count}
+use Rattle.protocol.specs.Judge.{accepts}
 use Rattle.protocol.specs.Plain.{Plain}
 use Rattle.protocol.specs.Demand3.{acted, row, write, labelled-step, row-of, rows, log, unnumbered, shown, all-shown, Demand3}
 use Rattle.protocol.proofs.Relabel.{nat-step}

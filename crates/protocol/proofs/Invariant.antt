@@ -13,7 +13,8 @@ use Rattle.protocol.specs.Ends.{in-accept, in-ack, holding}
 use Rattle.protocol.specs.Lists.{All, In, Opt}
 use Rattle.protocol.specs.Bench.{Bench}
 use Rattle.protocol.specs.Bears.{Any, ToController-bears, ToConsole-bears}
-use Rattle.protocol.specs.Judge.{Labelled, Since, steady, fallen, returned, is-returned, Judge}
+use Rattle.protocol.specs.Log.{Labelled}
+use Rattle.protocol.specs.Judge.{Since, steady, fallen, returned, is-returned, Judge}
 
 -- ## Modes, as facts: in every other mode the fact is ⊥
 

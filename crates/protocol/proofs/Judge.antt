@@ -8,9 +8,9 @@ use mathlib.Core.List.{List, [], _∷_}
 use lib.Dec.{T}
 use native.Mathlib.Omega.{arith}
 use Rattle.protocol.specs.Lists.{In}
-use Rattle.protocol.specs.Log.{Event, Put, Delivered, AnsweredOK, AnsweredLost, ConsoleDown, ConsoleBack, ControllerDown, ControllerBack, Log}
+use Rattle.protocol.specs.Log.{Labelled, labelled, Event, Put, Delivered, AnsweredOK, AnsweredLost, ConsoleDown, ConsoleBack, ControllerDown, ControllerBack, Log}
 use Rattle.protocol.specs.Log.{console-up, controller-up, waiting, put-count, fell, fell-and-back, Fits, Right}
-use Rattle.protocol.specs.Judge.{Labelled, labelled, Since, steady, fallen, returned, on-fall, on-return, is-returned, Judge, start, enter}
+use Rattle.protocol.specs.Judge.{Since, steady, fallen, returned, on-fall, on-return, is-returned, Judge, start, enter}
 use Rattle.protocol.specs.Judge.{judge}
 
 -- ## The judge's test as a fact. Messages of any type: no test compares their cells here

@@ -11,11 +11,10 @@ use Rattle.protocol.specs.Bench.{Bench, Action, fresh}
 use Rattle.protocol.specs.Relabel.{in-action}
 use Rattle.protocol.specs.Lists.{Opt}
 use Rattle.protocol.specs.WellFormed.{Used}
-use Rattle.protocol.specs.Numbers.{Standing}
-use Rattle.protocol.specs.Log.{Event, Log, put-count}
-use Rattle.protocol.specs.Judge.{Labelled, labelled, judge}
+use Rattle.protocol.specs.Log.{Labelled, labelled, Event, Log, put-count}
+use Rattle.protocol.specs.Judge.{judge}
 use Rattle.protocol.specs.Demand3.{write, labelled-step, row-of, rows, written}
-use Rattle.protocol.proofs.Numbers.{step-stands, used-tracked}
+use Rattle.protocol.proofs.Numbers.{Standing, step-stands, used-tracked}
 use Rattle.protocol.proofs.Judge.{Allowed, Accepted, counted-puts}
 use Rattle.protocol.proofs.Invariant.{Inv, nothing-on}
 use Rattle.protocol.proofs.Turns.{judged}

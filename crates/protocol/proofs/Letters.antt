@@ -1,11 +1,8 @@
--- The table of letters: no byte stands twice, and the letter of a byte is the one whose line has it. Assumes nothing.
-use Prim.Native.Nat.{ℕ}
-use mathlib.Core.Path.{_≡_, refl, subst}
-use mathlib.Core.Bool.{Bool, true, false}
-use mathlib.Core.Option.{some, Option·none-ne-some, Option·some-injective}
-use mathlib.Core.List.{List, [], _∷_, map}
-use lib.Dec.{eqb}
-use borrow.Author.Tests.{eqb-true}
+-- The table of letters: no byte stands twice, and the letter of a line's byte is that line's. Assumes nothing.
+use mathlib.Core.Path.{_≡_, refl}
+use mathlib.Core.Bool.{true}
+use mathlib.Core.Option.{some}
+use mathlib.Core.List.{[], _∷_, map}
 use Rattle.ground.specs.Choice.{if_then_else_}
 use Rattle.protocol.specs.Lists.{distinct}
 use Rattle.protocol.specs.Letters.{Letter, P-put, Q-need, D-data, S-take, C-down, V-back, O-offer, K-ok, R-take, X-down, Y-back, L-lose, M-lose}
@@ -30,17 +27,3 @@ letter-of X-down = refl
 letter-of Y-back = refl
 letter-of L-lose = refl
 letter-of M-lose = refl
-
-found : (ls : List Letter) (b : ℕ) (l : Letter) → among ls b ≡ some l → line l .byte ≡ b
-unfolding among if_then_else_
-found [] b l e = absurd (Option·none-ne-some l e)
-found (x ∷ ls) b l e = test (eqb (line x .byte) b) refl e (λ e. found ls b l e)
-  where
-    test : (c : Bool) → eqb (line x .byte) b ≡ c → (if c then some x else among ls b) ≡ some l → (among ls b ≡ some l → line l .byte ≡ b)
-        → line l .byte ≡ b
-    test true q e more = subst (λ y. line y .byte ≡ b) (Option·some-injective x l e) (eqb-true (line x .byte) b q)
-    test false q e more = more e
-
-pub byte-of : (b : ℕ) (l : Letter) → letter b ≡ some l → line l .byte ≡ b
-unfolding letter
-byte-of b l e = found letters b l e

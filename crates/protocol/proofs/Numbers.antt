@@ -13,15 +13,32 @@ use Rattle.protocol.specs.Letters.{Letter, P-put, Q-need, D-data, S-take
 use Rattle.protocol.specs.Letters.{line}
 use Rattle.protocol.specs.Ends.{ToController, needI, order, done, unknown, console-rules, controller-rules, refused}
 use Rattle.protocol.specs.Bench.{Bench, Action, action, at, asks, end-rules, rules-of, step, run, fresh}
-use Rattle.protocol.specs.Lists.{Opt}
-use Rattle.protocol.specs.Bears.{Any, ToController-bears}
+use Rattle.protocol.specs.Lists.{All, Opt}
+use Rattle.protocol.specs.Bears.{Any, ToController-bears, Console-bears, ToConsole-bears, Controller-bears}
 use Rattle.protocol.specs.WellFormed.{Used}
-use Rattle.protocol.specs.Numbers.{Standing, UJ, UI}
 use Rattle.protocol.proofs.Lists.{all-at}
 use Rattle.protocol.proofs.Refusals.{applied}
 use Rattle.protocol.proofs.Bears.{Tracked}
 use Rattle.protocol.proofs.Bench.{step-refused}
 use Rattle.protocol.proofs.Standing.{step-bears}
+
+-- ## The numbers that stand somewhere in a bench: in an end, up or down, or in a packet
+
+-- while each of them is used, a number that is newly taken stands nowhere
+module _ {S M : Type 0} where
+  -- every J that stands has the property F, every I the property G
+  pub record Standing (F G : ℕ → Type 0) (b : Bench S M) : Type 0 where
+    pub console : Console-bears F G Any (b .console .mode)
+    pub controller : Controller-bears F G (b .controller .mode)
+    pub to-controller : All (ToController-bears F G Any) (b .toController)
+    pub to-console : All (ToConsole-bears F G) (b .toConsole)
+
+  -- every J that stands is used; every I that stands is used
+  abbrev pub UJ : Supply S → Bench S M → Type 0
+  UJ U b = Standing (Used U (b .console .numbers)) Any b
+
+  abbrev pub UI : Supply S → Bench S M → Type 0
+  UI U b = Standing Any (Used U (b .controller .numbers)) b
 
 -- ## Used numbers, and numbers of which nothing is asked
 
@@ -85,10 +102,6 @@ module _ {S M : Type 0} (U : Supply S) (laws : Lawful S U) (good : M → Bool) w
   run-UI b (a ∷ l) h = run-UI (step U good b a .after) l (step-UI b a h)
 
 module _ {S M : Type 0} (U : Supply S) where
-  pub fresh-UJ : (j i : S) → UJ {M = M} U (fresh j i)
-  unfolding fresh
-  fresh-UJ j i = record { console = tt; controller = tt; to-controller = tt; to-console = tt }
-
   pub fresh-UI : (j i : S) → UI {M = M} U (fresh j i)
   unfolding fresh
   fresh-UI j i = record { console = tt; controller = tt; to-controller = tt; to-console = tt }

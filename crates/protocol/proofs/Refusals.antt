@@ -7,7 +7,7 @@ use mathlib.Core.List.{List, [], _∷_, map}
 use lib.Dec.{T, eqb}
 use borrow.Author.Tests.{eqb-true, eqb-false}
 use Rattle.ground.specs.Choice.{if_then_else_}
-use Rattle.ground.specs.First.{Rule, first, order, applies, refusal}
+use Rattle.ground.specs.First.{Rule, first, refusalOrder, applies, refusal}
 use Rattle.protocol.specs.Lists.{listed}
 
 neither : (a b : Bool) → (a || b) ≡ false → (a ≡ false) × (b ≡ false)
@@ -41,11 +41,11 @@ module _ (f : ℕ → Bool) where
 
 module _ (rules : List Rule) where
   -- an action that is not refused: no rule applies
-  pub passed : refusal rules ≡ 0 → (n : ℕ) → T (listed n order) → applies rules n ≡ false
+  pub passed : refusal rules ≡ 0 → (n : ℕ) → T (listed n refusalOrder) → applies rules n ≡ false
   unfolding refusal
-  passed e n h = none-applies (applies rules) order refl e n h
+  passed e n h = none-applies (applies rules) refusalOrder refl e n h
 
   -- one that is refused: the rule of that number applies
   pub applied : (n : ℕ) → refusal rules ≡ n → n ≢ 0 → applies rules n ≡ true
   unfolding refusal
-  applied n e z = one-applies (applies rules) order n e z
+  applied n e z = one-applies (applies rules) refusalOrder n e z

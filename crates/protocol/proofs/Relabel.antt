@@ -14,7 +14,7 @@ use Rattle.protocol.specs.Ends.{ControllerTurn, ConsoleTurn, ToControlle
 use Rattle.protocol.specs.Ends.{ok, lost, ConsoleMode, in-needI, in-send, ControllerMode, in-accept, in-ack, Console, Controller, ConsoleAct}
 use Rattle.protocol.specs.Ends.{put, send-needI, send-data, ControllerAct, send-offer, send-ok, puts, needI-sent, data-sent, console-takes}
 use Rattle.protocol.specs.Ends.{controller-takes, console-turn, controller-turn, console-power, controller-power, end-after, absent, holding}
-use Rattle.protocol.specs.Ends.{unknown, console-rules, controller-rules, console-acts, controller-acts, console-step, controller-step}
+use Rattle.protocol.specs.Ends.{unknown, console-rules, controller-rules, console-acts, controller-acts, controller-step}
 use Rattle.protocol.specs.Bench.{Bench, Action, Asked, console, controller, no-end, Taken, from-neither, from-toController, from-toConsole, at}
 use Rattle.protocol.specs.Bench.{without, copies-of, asks, missing, taken-out, does, effect, exceed, end-rules, no-room, rules-of, step}
 use Rattle.protocol.specs.Relabel.{in-packet, in-mode, in-console, in-console-act, in-controller-act, in-console-acted, in-controller-acted, in-bench, in-action, in-report, in-outcome}
@@ -190,12 +190,6 @@ module _ {M N : Type 0} (f : M → N) where
       nat-console-rules e (ConsoleAct.take p) = refl
       nat-console-rules e ConsoleAct.go-down = refl
       nat-console-rules e ConsoleAct.come-back = refl
-
-      pub nat-console-step : (e : Console S M) (act : ConsoleAct M)
-          → console-step U good′ (in-console f e) (in-console-act f act) ≡ in-console-acted f (console-step U good e act)
-      unfolding console-step
-      nat-console-step e act =
-          rw (nat-console-rules, nat-console-acts) (sym (if-map (in-console-acted f) (eqb (refusal (console-rules U good e act)) 0) _ _))
 
     nat-controller-rules : (e : Controller S) (act : ControllerAct M)
         → controller-rules U e (in-controller-act f act) ≡ controller-rules U e act

@@ -21,13 +21,12 @@ use Rattle.protocol.specs.Relabel.{in-action}
 use Rattle.protocol.specs.Lists.{All, Opt}
 use Rattle.protocol.specs.Bears.{Any, ToController-bears, Console-bears, ToConsole-bears, Controller-bears}
 use Rattle.protocol.specs.WellFormed.{Used}
-use Rattle.protocol.specs.Numbers.{Standing}
-use Rattle.protocol.specs.Log.{Event, Put, ConsoleDown, ConsoleBack, ControllerDown, ControllerBack}
-use Rattle.protocol.specs.Judge.{Labelled, labelled, Judge}
+use Rattle.protocol.specs.Log.{Labelled, labelled, Event, Put, ConsoleDown, ConsoleBack, ControllerDown, ControllerBack}
+use Rattle.protocol.specs.Judge.{Judge}
 use Rattle.protocol.specs.Demand3.{row, held-label}
 use Rattle.protocol.proofs.Lists.{all-append, all-copies, all-without, all-at, all-map₂, opt-map₂, if-holds}
 use Rattle.protocol.proofs.Refusals.{passed}
-use Rattle.protocol.proofs.Numbers.{unlike}
+use Rattle.protocol.proofs.Numbers.{Standing, unlike}
 use Rattle.protocol.proofs.Judge.{Allowed}
 use Rattle.protocol.proofs.Invariant.{Inv, ready-up, ready-down, View, view, Up, Down, nothing-on, stay}
 use Rattle.protocol.proofs.ConsoleMoves.{rest}

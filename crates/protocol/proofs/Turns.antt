@@ -14,8 +14,8 @@ use Rattle.protocol.specs.Ends.{delivered, answered-ok, answered-lost, p
 use Rattle.protocol.specs.Ends.{needI-sent, data-sent, offer-sent, ok-sent, holding, absent}
 use Rattle.protocol.specs.Bench.{action}
 use Rattle.protocol.specs.Lists.{Opt}
-use Rattle.protocol.specs.Log.{Event, Put}
-use Rattle.protocol.specs.Judge.{Labelled, Judge, enter}
+use Rattle.protocol.specs.Log.{Labelled, Event, Put}
+use Rattle.protocol.specs.Judge.{Judge, enter}
 use Rattle.protocol.specs.Demand3.{row, held-label}
 use Rattle.protocol.proofs.Lists.{if-holds}
 use Rattle.protocol.proofs.Judge.{Allowed}

@@ -14,8 +14,7 @@ use Rattle.protocol.specs.Supply.{Supply, Lawful}
 use Rattle.protocol.specs.Letters.{Letter, P-put, Q-need, D-data, S-take, C-down, V-back, O-offer, K-ok, R-take, X-down, Y-back, L-lose, M-lose}
 use Rattle.protocol.specs.Letters.{line}
 use Rattle.protocol.specs.Ends.{ControllerActed, ConsoleActed, Console, Controller, ConsoleAct, put, send-needI, send-data, ControllerAct}
-use Rattle.protocol.specs.Ends.{console-turn, controller-turn, console-acts, controller-acts, console-rules, controller-rules, console-step}
-use Rattle.protocol.specs.Ends.{controller-step}
+use Rattle.protocol.specs.Ends.{console-turn, controller-turn, console-acts, controller-acts, console-rules}
 use Rattle.protocol.specs.Bench.{Bench, Action, action, Outcome, at, without, copies-of, places, asks, takes, taken-out, does, effect, exceed}
 use Rattle.protocol.specs.Bench.{end-rules, no-room, rules-of, step, run, fresh}
 use Rattle.protocol.specs.Lists.{Opt}
@@ -66,13 +65,6 @@ module _ {S M : Type 0} (U : Supply S) (laws : Lawful S U) where
         let d = console-acts-bears U (Sound U) (Given U) (λ _. Number U) (given-tracked U laws) (Number U) (Good good) e act (h .numbers) (h .mode) (handed-good (Number U) (Number U) act q x) in
         (record { numbers = d .sound; mode = d .mode }, d .sent)
 
-    pub console-step-ok : (act : ConsoleAct M) → Console-ok U good e → Console-handed-ok U act
-        → let d = console-step U good e act in Console-ok U good (d .after) × Opt (To-controller-ok U good) (d .sent)
-    unfolding console-step
-    console-step-ok act h x =
-        if-holds Console-left (eqb (refusal (console-rules U good e act)) 0) _ _
-        (λ q. console-acts-ok act (eqb-true (refusal (console-rules U good e act)) 0 q) h x) (λ q. (h, tt))
-
   module _ (good : M → Bool) (e : Controller S) where
     abbrev Controller-left : ControllerActed S M → Type 0
     Controller-left d = Controller-ok U (d .after) × Opt (To-console-ok U) (d .sent)
@@ -81,12 +73,6 @@ module _ {S M : Type 0} (U : Supply S) (laws : Lawful S U) where
     controller-acts-ok act h x =
         let d = controller-acts-bears U (Sound U) (Given U) (λ _. Number U) (given-tracked U laws) (Number U) (Good good) e act (h .numbers) (h .mode) x in
         (record { numbers = d .sound; mode = d .mode }, d .sent)
-
-    pub controller-step-ok : (act : ControllerAct M) → Controller-ok U e → Controller-handed-ok U good act
-        → let d = controller-step U e act in Controller-ok U (d .after) × Opt (To-console-ok U) (d .sent)
-    unfolding controller-step
-    controller-step-ok act h x =
-        if-holds Controller-left (eqb (refusal (controller-rules U e act)) 0) _ _ (λ q. controller-acts-ok act h x) (λ q. (h, tt))
 
 -- ## Room in the channels
 

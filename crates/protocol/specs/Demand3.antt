@@ -9,9 +9,8 @@ use Rattle.protocol.specs.Letters.{Letter, P-put, Q-need, D-data, S-take
 use Rattle.protocol.specs.Ends.{ConsoleMode, in-needI, in-send, Report, nothing, delivered, answered-ok, answered-lost, refused}
 use Rattle.protocol.specs.Bench.{Bench, Action, Outcome, step, reports, fresh}
 use Rattle.protocol.specs.Relabel.{in-action, in-report}
-use Rattle.protocol.specs.Log.{Event, Put, Delivered, AnsweredOK, AnsweredLost, ConsoleDown, ConsoleBack, ControllerDown, ControllerBack, Log}
+use Rattle.protocol.specs.Log.{Labelled, labelled, Event, Put, Delivered, AnsweredOK, AnsweredLost, ConsoleDown, ConsoleBack, ControllerDown, ControllerBack, Log}
 use Rattle.protocol.specs.Log.{put-count, Right}
-use Rattle.protocol.specs.Judge.{Labelled, labelled}
 
 -- ## The row that an action leaves in the log, if it leaves one
 

@@ -1,19 +1,11 @@
 -- A judge that reads a log row by row, oldest first: what it keeps, which row it allows next, and how it goes on. Executable; it accepts a log
--- exactly if the log is right (proofs/Judge.antt). Assumes nothing.
+-- exactly if the log is right (`accepts-exactly` in proofs/Accepts.antt). Assumes nothing.
 use Prim.Native.Nat.{ℕ, suc}
 use mathlib.Core.Bool.{Bool, true, false, not, _&&_, _||_}
 use mathlib.Core.List.{List, [], _∷_}
 use lib.Dec.{eqb, ltb}
 use Rattle.protocol.specs.Lists.{listed}
-use Rattle.protocol.specs.Log.{Event, Put, Delivered, AnsweredOK, AnsweredLost, ConsoleDown, ConsoleBack, ControllerDown, ControllerBack, Log}
-
--- a message with the number of its put
-pub record Labelled (M : Type 0) : Type 0 where
-  pub label : ℕ
-  pub cells : M
-
-abbrev pub labelled : {M : Type 0} → ℕ → M → Labelled M
-labelled n c = record { label = n; cells = c }
+use Rattle.protocol.specs.Log.{Labelled, labelled, Event, Put, Delivered, AnsweredOK, AnsweredLost, ConsoleDown, ConsoleBack, ControllerDown, ControllerBack, Log}
 
 -- the controller since the last put: nothing, went down, went down and came back
 pub data Since : Type 0 where

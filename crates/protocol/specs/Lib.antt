@@ -6,7 +6,6 @@ pub mod Judge
 pub mod Letters
 pub mod Lists
 pub mod Log
-pub mod Numbers
 pub mod Plain
 pub mod Relabel
 pub mod Starred

@@ -8,6 +8,14 @@ use mathlib.Core.List.{List, [], _∷_}
 use lib.Dec.{T}
 use Rattle.protocol.specs.Lists.{In}
 
+-- a message with the number of its put
+pub record Labelled (M : Type 0) : Type 0 where
+  pub label : ℕ
+  pub cells : M
+
+abbrev pub labelled : {M : Type 0} → ℕ → M → Labelled M
+labelled n c = record { label = n; cells = c }
+
 -- the puts that were taken are numbered 1, 2, ..: two orders may have the same cells, and only the number tells them apart
 pub data Event (M : Type 0) : Type 0 where
   Put Delivered : ℕ → M → Event M

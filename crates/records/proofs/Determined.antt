@@ -4,11 +4,16 @@ use denote.Ref.{now}
 use Rattle.ground.proofs.Promise.{Determined, DeterminedWith}
 use Rattle.records.proofs.reading.read.Kinds as read-kinds
 use Rattle.records.proofs.reading.read.Reads as read
+use Rattle.records.proofs.reading.record_end.Kinds as record-end-kinds
+use Rattle.records.proofs.reading.record_end.Reads as record-end
 use Rattle.records.proofs.writing.write_line.Kinds as write-line-kinds
 use Rattle.records.proofs.writing.write_line.Reads as write-line
 
 pub read-determined : Determined read-kinds.ps read-kinds.r read.Post
 read-determined κs a x y s t p q = p ∙ sym q
+
+pub record-end-determined : Determined record-end-kinds.ps record-end-kinds.r record-end.Post
+record-end-determined κs a x y s t p q = p ∙ sym q
 
 pub write-line-determined : DeterminedWith write-line-kinds.ps write-line-kinds.r write-line.Post (λ κs s. now (s .0))
 write-line-determined κs a x y s t p q = (refl, p ∙ sym q)

@@ -8,7 +8,6 @@ use borrow.Author.Tests.{ne-eqb, eq-eqb, leb-true}
 use lib.ListN.{length, getD, take, drop, length-drop}
 use lib.Seq.{length-take-le}
 use lib.Dec.{leb}
-use Rattle.ground.specs.Cell.{isMessage}
 use Rattle.ground.specs.Choice.{if_then_else_}
 use Rattle.ground.proofs.Tests.{and-left, and-right}
 use Rattle.wire.specs.Frame.{field}
@@ -19,7 +18,19 @@ use Rattle.letters.specs.declared.Line.{Line}
 use Rattle.letters.specs.declared.Found.{Found}
 use Rattle.letters.specs.declared.Found.the-variants as found
 use Rattle.records.specs.declared.Record.{Record}
-use Rattle.records.specs.Record.{digit, placeOf, copiesOf, isPlace, isCopies, placeFits, copiesFit, messageFits, fieldsFit, wellFormed, fields, illFormed, listRecord, recordOf}
+use Rattle.records.specs.Record.{digit, placeOf, copiesOf, isPlace, isCopies, placeFits, copiesFit, fieldsFit, wellFormed, fields, illFormed, listRecord, recordOf}
+
+-- ## A record
+
+-- what is read of a record that is well formed, and of one that is not
+module _ (s : List ℕ) where
+  pub read-well : wellFormed s ≡ true → listRecord s ≡ fields (foundOf (letter (getD s 0 0))) s
+  unfolding listRecord if_then_else_
+  read-well e = rw e
+
+  pub read-ill : wellFormed s ≡ false → listRecord s ≡ illFormed
+  unfolding listRecord if_then_else_
+  read-ill e = rw e
 
 -- ## Fields that fit, one by one
 
@@ -43,12 +54,6 @@ module _ (l : Line) (s : List ℕ) {r : Bool} (e : r ≡ fieldsFit l s) (t : r �
   pub copies-good : isCopies cell-3 ≡ true
   unfolding fieldsFit copiesFit
   copies-good = and-left (isCopies cell-3) _ (and-left (copiesFit (l .copies) cell-3) _ (and-right (placeFits (l .place) tens ones) _ all))
-
-  pub message-good : isMessage (field s 4 16) ≡ true
-  unfolding fieldsFit messageFits
-  message-good =
-      and-left (isMessage (field s 4 16)) _
-      (and-left (messageFits (l .message) (field s 4 16)) _ (and-right (copiesFit (l .copies) cell-3) _ (and-right (placeFits (l .place) tens ones) _ all)))
 
   pub tens-digit : 0x30 ≤ getD s 1 0
   unfolding isPlace

@@ -65,9 +65,9 @@ copies-unused u b e = rw e (zero b)
 
 -- ## A message
 
-pub message-used : (u : Bool) (m : List ℕ) {r : Bool} → u ≡ true → length m ≡ 16 → r ≡ cells m → r ≡ messageFits u m
-unfolding messageFits isMessage
-message-used u m e l f = rw (e, l, and-true) f
+pub message-used : (u : Bool) (m : List ℕ) {r : Bool} → u ≡ true → r ≡ isMessage m → r ≡ messageFits u m
+unfolding messageFits
+message-used u m e f = rw (e, and-true) f
 
 -- spaces are cells
 spaces-message : (m : List ℕ) → length m ≡ 16 → filled 0x20 m ≡ true → isMessage m ≡ true
@@ -89,12 +89,12 @@ fails true false e m h = refl
 fails false b e m h = refl
 
 module _ (l : Line) (s : List ℕ) {a b : Bool} (p : a ≡ placeFits (l .place) (getD s 1 0) (getD s 2 0)) (k : b ≡ copiesFit (l .copies) (getD s 3 0)) where
-  pub fields-message : {m : Bool} → ((a && b) && eqb (getD s 20 0) 0x0A) ≡ true → m ≡ messageFits (l .message) (field s 4 16) → m ≡ fieldsFit l s
+  pub fields-message : {m : Bool} {row : List ℕ} → ((a && b) && eqb (getD s 20 0) 0x0A) ≡ true → row ≡ field s 4 16 → m ≡ messageFits (l .message) row → m ≡ fieldsFit l s
   unfolding fieldsFit
-  fields-message t f =
+  fields-message t at f =
       let e = and-right (a && b) (eqb (getD s 20 0) 0x0A) t in
       let d = and-left (a && b) (eqb (getD s 20 0) 0x0A) t in
-      rw (← p, and-left a b d, ← k, and-right a b d, ← f, e, and-true)
+      rw (← p, and-left a b d, ← k, and-right a b d, ← at, ← f, e, and-true)
 
   pub fields-fail : ((a && b) && eqb (getD s 20 0) 0x0A) ≡ false → false ≡ fieldsFit l s
   unfolding fieldsFit

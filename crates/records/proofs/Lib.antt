@@ -1,6 +1,6 @@
-pub mod Bounds
 pub mod Cells
 pub mod Determined
+pub mod Ending
 pub mod Fields
 pub mod Fitting
 pub mod Vectors

@@ -18,10 +18,12 @@ use Rattle.letters.specs.declared.Found.the-variants as found
 use Rattle.ends.specs.declared.Report.the-variants as report
 use Rattle.records.specs.declared.Record.{Record}
 use Rattle.records.specs.Line.{decimals, lineBytes, lineWritten}
-use Rattle.records.specs.Record.{isPlace, isCopies, placeFits, copiesFit, messageFits, fieldsFit, wellFormed, illFormed, listRecord}
+use Rattle.records.specs.Record.{isPlace, isCopies, placeFits, copiesFit, messageFits, fieldsFit, wellFormed, illFormed, listRecord, recordEnd}
 use Rattle.records.proofs.Vectors.{start, laid, start-read}
 use Rattle.records.proofs.reading.read.Kinds as read-kinds
 use Rattle.records.proofs.reading.read.Reads as read
+use Rattle.records.proofs.reading.record_end.Kinds as record-end-kinds
+use Rattle.records.proofs.reading.record_end.Reads as record-end
 use Rattle.records.proofs.writing.write_line.Kinds as write-line-kinds
 use Rattle.records.proofs.writing.write_line.Reads as write-line
 
@@ -58,3 +60,19 @@ module _ (κs : Lfts 1) (a : Dens κs write-line-kinds.ps) (s : AtExit (endedOf 
   shows-the-letter e k =
       let q : getD (now (s .0)) 5 0 ≡ 0x3F = ap (λ (l : List ℕ). getD l 5 0) (written ∙ ap (λ r. lineBytes (a .1 .0) (a .1 .1 .0) r (a .1 .1 .1 .1 .0)) e) in
       omega (arith, q, k)
+
+-- one that finds where a record ends, of 40 bytes
+module _ (κs : Lfts 0) (a : Dens κs record-end-kinds.ps) (x : ℕ) (s : AtExit (endedOf 0 record-end-kinds.ps record-end-kinds.r) κs) (long : a .1 .0 ≡ 40) (meets : record-end.Post κs a x s) where
+  -- the last record is short
+  pub reads-past-the-end : a .0 ≡ 21 → x ≡ 42 → ⊥
+  unfolding recordEnd if_then_else_
+  reads-past-the-end b e =
+      let q : x ≡ 40 = meets ∙ λ i. recordEnd (b i) (long i) in
+      omega (arith, q, e)
+
+  -- the line feed belongs to the record
+  pub leaves-the-line-feed : a .0 ≡ 0 → x ≡ 20 → ⊥
+  unfolding recordEnd if_then_else_
+  leaves-the-line-feed b e =
+      let q : x ≡ 21 = meets ∙ λ i. recordEnd (b i) (long i) in
+      omega (arith, q, e)

@@ -4,7 +4,7 @@ use Prim.Native.Nat.{ℕ, _+_, _*_, _-_}
 use mathlib.Core.Bool.{Bool, false, _&&_, _||_}
 use mathlib.Core.List.{List}
 use lib.ListN.{length, getD}
-use lib.Dec.{eqb, leb}
+use lib.Dec.{eqb, leb, ltb}
 use Rattle.ground.specs.Cell.{isMessage, spaces}
 use Rattle.ground.specs.Choice.{if_then_else_}
 use Rattle.ground.specs.Every.{filled}
@@ -76,3 +76,7 @@ listRecord s = if wellFormed s then fields (foundOf (letter (getD s 0 0))) s els
 -- the same of 21 bytes whose letter has this line
 unfoldable pub recordOf : Line → List ℕ → Record
 recordOf l s = if fieldsFit l s then fields (found.Line l) s else illFormed
+
+-- where a record that begins at `start` ends in `len` bytes: 21 bytes on, but the last may be short
+unfoldable pub recordEnd : ℕ → ℕ → ℕ
+recordEnd start len = if ltb len (start + 21) then len else start + 21

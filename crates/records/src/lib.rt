@@ -4,6 +4,7 @@ mod writing;
 
 use letters::Found;
 pub use reading::read;
+pub use reading::record_end;
 pub use writing::write_line;
 
 // A list record. An enum can't hold an array, so the fields stand beside the letter's line; 0, 0 and 16 spaces beside Nothing, which is

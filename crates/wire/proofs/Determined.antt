@@ -4,6 +4,8 @@ use denote.Ref.{now}
 use Rattle.ground.proofs.Promise.{Determined, DeterminedWith}
 use Rattle.wire.proofs.packets.direction_of.Kinds as direction-of-kinds
 use Rattle.wire.proofs.packets.direction_of.Reads as direction-of
+use Rattle.wire.proofs.packets.read_head.Kinds as read-head-kinds
+use Rattle.wire.proofs.packets.read_head.Reads as read-head
 use Rattle.wire.proofs.packets.read_packet.Kinds as read-packet-kinds
 use Rattle.wire.proofs.packets.read_packet.Reads as read-packet
 use Rattle.wire.proofs.packets.write_packet.Kinds as write-packet-kinds
@@ -14,6 +16,8 @@ use Rattle.wire.proofs.records.write_record.Kinds as write-record-kinds
 use Rattle.wire.proofs.records.write_record.Reads as write-record
 use Rattle.wire.proofs.frame.big_endian.Kinds as big-endian-kinds
 use Rattle.wire.proofs.frame.big_endian.Reads as big-endian
+use Rattle.wire.proofs.frame.from_big_endian.Kinds as from-big-endian-kinds
+use Rattle.wire.proofs.frame.from_big_endian.Reads as from-big-endian
 use Rattle.wire.proofs.packets.head_of.Kinds as head-of-kinds
 use Rattle.wire.proofs.packets.head_of.Reads as head-of
 use Rattle.wire.proofs.records.end_of.Kinds as end-of-kinds
@@ -27,6 +31,9 @@ use Rattle.wire.proofs.packets.fields_of.Reads as fields-of
 
 pub direction-of-determined : Determined direction-of-kinds.ps direction-of-kinds.r direction-of.Post
 direction-of-determined κs a x y s t p q = p ∙ sym q
+
+pub read-head-determined : Determined read-head-kinds.ps read-head-kinds.r read-head.Post
+read-head-determined κs a x y s t p q = p ∙ sym q
 
 pub read-packet-determined : Determined read-packet-kinds.ps read-packet-kinds.r read-packet.Post
 read-packet-determined κs a x y s t p q = p ∙ sym q
@@ -42,6 +49,9 @@ write-record-determined κs a x y s t p q = (p .0 ∙ sym (q .0), p .1 ∙ sym (
 
 pub big-endian-determined : Determined big-endian-kinds.ps big-endian-kinds.r big-endian.Post
 big-endian-determined κs a x y s t p q = p ∙ sym q
+
+pub from-big-endian-determined : Determined from-big-endian-kinds.ps from-big-endian-kinds.r from-big-endian.Post
+from-big-endian-determined κs a x y s t p q = p ∙ sym q
 
 pub head-of-determined : Determined head-of-kinds.ps head-of-kinds.r head-of.Post
 head-of-determined κs a x y s t p q = p ∙ sym q

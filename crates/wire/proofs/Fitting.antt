@@ -1,5 +1,5 @@
 -- Packets as their lines say: what they have, their bytes, and each kind of them.
-use Prim.Native.Nat.{ℕ, _<_}
+use Prim.Native.Nat.{ℕ, _^_, _<_}
 use mathlib.Core.Path.{_≡_, refl, sym, ap, _∙_}
 use mathlib.Core.Bool.{Bool, true, _&&_, not}
 use mathlib.Core.List.{List, _++_}
@@ -7,10 +7,8 @@ use native.Mathlib.Omega.{arith}
 use borrow.Author.Tests.{ne-eqb, eqb-true, eqb-false, not-true}
 use lib.ListN.{length, replicate}
 use lib.Dec.{eqb}
-use Rattle.ground.specs.Bytes.{Bytes}
 use Rattle.ground.specs.Cell.{cells, isMessage}
 use Rattle.ground.specs.Every.{filled}
-use Rattle.ground.proofs.Bytes.{bytes-append, bytes-cells, bytes-replicate}
 use Rattle.ground.proofs.Every.{filled-is, filled-replicate}
 use Rattle.ground.proofs.Tests.{and-left, and-right, and-both}
 use Rattle.wire.specs.declared.Direction.the-variants.{ToController, ToConsole}
@@ -19,11 +17,8 @@ use Rattle.wire.specs.declared.Head.the-variants.{NeedI, Offer, Data, Ok
 use Rattle.wire.specs.declared.I.{I}
 use Rattle.wire.specs.declared.J.{J}
 use Rattle.wire.specs.declared.Packet.{Packet}
-use Rattle.wire.specs.Frame.{frame}
 use Rattle.wire.specs.Number.{bytesOf}
-use Rattle.wire.specs.Packet.{isBlank, table, kindOf, directionOf, firstOf, secondOf, numbered, fits, packetBytes, Typed}
-use Rattle.wire.proofs.Frames.{frame-bytes}
-use Rattle.wire.proofs.Numbers.{bytes-bytesOf}
+use Rattle.wire.specs.Packet.{isBlank, table, directionOf, firstOf, secondOf, numbered, fits, packetBytes}
 
 module _ (p : Packet) where
   pub fits-both : numbered (p .head) ≡ true → table (p .head) .message (p .message) ≡ true → fits p ≡ true
@@ -49,13 +44,6 @@ pub zeros-blank : isBlank (replicate 16 0) ≡ true
 unfolding isBlank
 zeros-blank = filled-replicate 16 0
 
-blank-bytes : (m : List ℕ) → isBlank m ≡ true → Bytes m
-blank-bytes m e = rw (blank-is m e) (bytes-replicate 16 0 (omega arith))
-
-message-bytes : (m : List ℕ) → isMessage m ≡ true → Bytes m
-unfolding isMessage
-message-bytes m e = bytes-cells m (and-right (eqb (length m) 16) (cells m) e)
-
 blank-long : (m : List ℕ) → isBlank m ≡ true → length m ≡ 16
 blank-long m e = rw (blank-is m e) refl
 
@@ -72,13 +60,10 @@ by-sort P b c (Ok i) m e = b m e
 by-sort P b c (Lost i) m e = b m e
 by-sort P b c (Done i) m e = b m e
 
-kind-byte : (h : Head) → kindOf h < 256
-kind-byte (NeedI j) = omega arith
-kind-byte (Offer j i) = omega arith
-kind-byte (Data i) = omega arith
-kind-byte (Ok i) = omega arith
-kind-byte (Lost i) = omega arith
-kind-byte (Done i) = omega arith
+-- what the types of a packet's numbers say, as laws ask it; of its message `fits` says enough
+pub record Typed (p : Packet) : Type 0 where
+  pub first : firstOf (p .head) < 2 ^ 32
+  pub second : secondOf (p .head) < 2 ^ 32
 
 module _ (p : Packet) (f : fits p ≡ true) where
   pub message-sixteen : length (p .message) ≡ 16
@@ -87,16 +72,6 @@ module _ (p : Packet) (f : fits p ≡ true) where
   pub packet-long : length (packetBytes p) ≡ 32
   unfolding packetBytes bytesOf
   packet-long = rw message-sixteen
-
-  pub packet-is-bytes : Typed p → Bytes (packetBytes p)
-  unfolding packetBytes
-  packet-is-bytes t =
-      let a = bytesOf 4 (firstOf (p .head)) in
-      let b = bytesOf 4 (secondOf (p .head)) in
-      bytes-append (frame 0x4C (kindOf (p .head))) (a ++ (b ++ p .message)) (frame-bytes 0x4C (kindOf (p .head)) (omega arith) (kind-byte (p .head)))
-      (bytes-append a (b ++ p .message) (bytes-bytesOf 4 (firstOf (p .head)) (t .first))
-      (bytes-append b (p .message) (bytes-bytesOf 4 (secondOf (p .head)) (t .second))
-      (by-sort Bytes blank-bytes message-bytes (p .head) (p .message) (fits-message p f))))
 
 -- a packet of each kind that can be sent
 named : (n : ℕ) → 0 < n → not (eqb n 0) ≡ true

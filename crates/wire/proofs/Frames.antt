@@ -8,15 +8,12 @@ use borrow.Author.Tests.{eqb-true}
 use lib.ListN.{length, getD, drop, take-append-drop}
 use lib.Seq.{drop-drop}
 use lib.Dec.{eqb}
-use Rattle.ground.specs.Bytes.{Bytes}
 use Rattle.ground.specs.First.{first}
-use Rattle.ground.proofs.Bytes.{bytes-cons, bytes-append}
 use Rattle.ground.proofs.First.{none-wanting}
 use Rattle.ground.proofs.Tests.{and-left, and-right}
 use Rattle.wire.specs.Frame.{field, bytesAre, mark, frame, readRefusals}
 use Rattle.wire.specs.Number.{bytesOf}
 use Rattle.wire.proofs.Elements.{elements, split-elements}
-use Rattle.wire.proofs.Numbers.{bytes-bytesOf}
 
 bytes-are : (s : List ℕ) (at : ℕ) (bs : List ℕ) → bytesAre s at bs ≡ true → elements s at (length bs) ≡ bs
 bytes-are s at [] e = refl
@@ -55,9 +52,3 @@ frame-rest n letter s good h f =
 -- a list from an offset on is a field and the rest
 pub split-field : (s : List ℕ) (at n : ℕ) → drop at s ≡ field s at n ++ drop (at + n) s
 split-field s at n = sym (take-append-drop n (drop at s)) ∙ ap (λ (r : List ℕ). field s at n ++ r) (drop-drop n at s)
-
-pub frame-bytes : (letter kind : ℕ) → letter < 256 → kind < 256 → Bytes (frame letter kind)
-frame-bytes letter kind h k =
-    let m = bytes-cons 0x48 (0x53 ∷ letter ∷ []) (omega arith) (bytes-cons 0x53 (letter ∷ []) (omega arith) (bytes-cons letter [] h (λ i. omega arith))) in
-    bytes-append (mark letter ++ bytesOf 2 1) (kind ∷ bytesOf 2 0) (bytes-append (mark letter) (bytesOf 2 1) m (bytes-bytesOf 2 1 (omega arith)))
-    (bytes-cons kind (bytesOf 2 0) k (bytes-bytesOf 2 0 (omega arith)))

@@ -13,3 +13,4 @@ pub mod Trips
 pub mod Vectors
 pub mod Writing
 pub mod Wrong
+pub mod WrongNumber

@@ -66,9 +66,17 @@ big-endian-is n =
     let e₃ : n % 0x100 ≡ n % 0x1000000 % 0x10000 % 0x100 / 1 = omega arith in
     rw (e₁, e₂, e₃)
 
-pub number-is : (s : List ℕ) (at : ℕ) {a b c d : ℕ} → at + 4 ≤ length s → a ≡ getD s at 0 → b ≡ getD s (at + 1) 0 → c ≡ getD s (at + 2) 0 → d ≡ getD s (at + 3) 0 → a * 0x1000000 + b * 0x10000 + c * 0x100 + d ≡ value (field s at 4)
+pub four-is : (s : List ℕ) {a b c d : ℕ} → length s ≡ 4 → a ≡ getD s 0 0 → b ≡ getD s 1 0 → c ≡ getD s 2 0 → d ≡ getD s 3 0 → a * 0x1000000 + b * 0x10000 + c * 0x100 + d ≡ value s
 unfolding value
-number-is s at h e₀ e₁ e₂ e₃ = rw (field-elements 4 s at h, e₀, e₁, e₂, e₃, add-one, add-two, add-three) (omega arith)
+four-is [] l e₀ e₁ e₂ e₃ = absurd (omega (arith, l))
+four-is (x ∷ []) l e₀ e₁ e₂ e₃ = absurd (omega (arith, l))
+four-is (x ∷ y ∷ []) l e₀ e₁ e₂ e₃ = absurd (omega (arith, l))
+four-is (x ∷ y ∷ z ∷ []) l e₀ e₁ e₂ e₃ = absurd (omega (arith, l))
+four-is (x ∷ y ∷ z ∷ w ∷ []) l e₀ e₁ e₂ e₃ = rw (e₀, e₁, e₂, e₃) (omega arith)
+four-is (x ∷ y ∷ z ∷ w ∷ v ∷ s) l e₀ e₁ e₂ e₃ = absurd (omega (arith, l))
+
+pub number-at-is : (s : List ℕ) (at : ℕ) {n : ℕ} → at + 4 ≤ length s → n ≡ value (getD s at 0 ∷ getD s (at + 1) 0 ∷ getD s (at + 2) 0 ∷ getD s (at + 3) 0 ∷ []) → n ≡ value (field s at 4)
+number-at-is s at h e = rw (field-elements 4 s at h) (rw (add-one, add-two, add-three) at e)
 
 -- the number at an offset, and its bytes
 module _ (s : List ℕ) (at n : ℕ) (b : Bytes s) (h : at + n ≤ length s) where

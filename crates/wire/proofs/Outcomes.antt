@@ -4,7 +4,7 @@ use mathlib.Core.Path.{_≡_, sym, ap, _∙_}
 use mathlib.Core.List.{List}
 use mathlib.Core.Bool.{true, false≢true}
 use borrow.Author.Tests.{ne-eqb, eqb-true, eqb-false}
-use lib.ListN.{getD, drop}
+use lib.ListN.{length, getD, drop}
 use lib.Dec.{eqb}
 use Rattle.ground.specs.Choice.{if_then_else_}
 use Rattle.ground.proofs.Tests.{by-test}
@@ -46,6 +46,10 @@ module _ (s : List ℕ) where
   carried : readRefusal s ≡ 0 → carries (headAt s) (drop 16 s) ≡ true
   unfolding readRefusal
   carried z = framed 32 0x4C s (carries (headAt s) (drop 16 s)) z .fields
+
+  pub unrefused-long : readRefusal s ≡ 0 → length s ≡ 32
+  unfolding readRefusal
+  unrefused-long z = framed 32 0x4C s (carries (headAt s) (drop 16 s)) z .long
 
   pub head-refused : {n : ℕ} → packetRead s .head ≡ Refused n → (readRefusal s ≡ n) × (n ≡ 0 → ⊥)
   head-refused {n} e =

@@ -1,6 +1,6 @@
 -- What is read, from the answers of the calls that read it: laws that the code's proofs cite.
 use Prim.Native.Nat.{ℕ, _-_}
-use mathlib.Core.Path.{_≡_, refl, sym, _∙_}
+use mathlib.Core.Path.{_≡_, refl, sym, ap, _∙_}
 use mathlib.Core.List.{List, [], _∷_, _++_}
 use mathlib.Core.Bool.{Bool, true, false, not, true≢false}
 use borrow.Author.Tests.{ne-eqb, eq-eqb}
@@ -10,7 +10,9 @@ use Rattle.ground.specs.Choice.{if_then_else_}
 use Rattle.ground.specs.First.{first}
 use Rattle.ground.proofs.First.{first-applies, first-passes, first-kept, first-more}
 use Rattle.ground.proofs.Tests.{by-test}
+use Rattle.wire.specs.declared.Head.{Head}
 use Rattle.wire.specs.declared.ReadHead.{ReadHead}
+use Rattle.wire.specs.declared.ReadHead.the-variants as read-head
 use Rattle.wire.specs.declared.ReadPacket.{ReadPacket}
 use Rattle.wire.specs.declared.ReadRecord.{ReadRecord}
 use Rattle.wire.specs.declared.ReadRecord.the-variants.{Refused}
@@ -19,7 +21,7 @@ use Rattle.wire.specs.Number.{value}
 use Rattle.wire.specs.Packet.{headOf, headAt, carries, readRefusal, refused, packetRead}
 use Rattle.wire.specs.Record.{lastUsedOf, lastUsedAt, isRead, recordRefusal, recordRead}
 use Rattle.wire.proofs.Copies.{copied, rest-lent}
-use Rattle.wire.proofs.Outcomes.{packet-read}
+use Rattle.wire.proofs.Outcomes.{packet-read, refused-read, head-unrefused, head-refused, unrefused-long}
 
 -- the first refusal of a read: of the length, of bytes 0 to 7, and of the other fields
 module _ (n letter : ℕ) (s : List ℕ) (good : Bool) where
@@ -37,24 +39,48 @@ unfolding headAt
 head-at-is s e f g = rw (← e, ← f) g
 
 -- the message, copied from the part that is lent
-pub message-copied : (s d : List ℕ) {x : List ℕ} → length s ≡ 32 → length d ≡ 16 → x ≡ take (length (take (length s - 16) (drop 16 s))) (take (length s - 16) (drop 16 s)) ++ drop (length (take (length s - 16) (drop 16 s))) d → x ≡ drop 16 s
-message-copied s d l m e = copied (drop 16 s) d (rw (← rest-lent s 16) e) (m ∙ rw (length-drop 16 s, l))
+pub message-copied : (s d : List ℕ) {x : List ℕ} → length s ≡ 32 → length d ≡ 16 → x ≡ take (length (take 16 (drop 16 s))) (take 16 (drop 16 s)) ++ drop (length (take 16 (drop 16 s))) d → x ≡ drop 16 s
+message-copied s d l m e =
+    let r : take 16 (drop 16 s) ≡ drop 16 s = sym (ap (λ (n : ℕ). take (n - 16) (drop 16 s)) l) ∙ rest-lent s 16 in
+    copied (drop 16 s) d (rw r at e) (m ∙ rw (length-drop 16 s, l))
 
-pub read-length : (s : List ℕ) {x : ReadPacket} → (length s ≡ 32 → ⊥) → x ≡ refused 12 → x ≡ packetRead s
-unfolding packetRead readRefusal if_then_else_
-read-length s h e = rw (refusal-length 32 0x4C s _ h) e
+module _ (s : List ℕ) where
+  pub read-short : (length s ≡ 32 → ⊥) → packetRead s ≡ refused 12
+  unfolding packetRead readRefusal if_then_else_
+  read-short h = rw (refusal-length 32 0x4C s _ h)
 
-pub read-frame : (s : List ℕ) {n : ℕ} {x : ReadPacket} → length s ≡ 32 → n ≡ first (frameRefusals 0x4C s) → (n ≡ 0 → ⊥) → x ≡ refused n → x ≡ packetRead s
-unfolding packetRead readRefusal if_then_else_
-read-frame s {n} l e h f = rw (refusal-frame 32 0x4C s _ l (λ z. h (e ∙ z)), ← e, ne-eqb n 0 h) f
+  pub read-length : (length s ≡ 32 → ⊥) → read-head.Refused 12 ≡ packetRead s .head
+  read-length h = sym (ap (λ (r : ReadPacket). r .head) (read-short h))
 
-pub read-fields : (s : List ℕ) {n : ℕ} {h : ReadHead} {r : Bool} {x : ReadPacket} → length s ≡ 32 → n ≡ first (frameRefusals 0x4C s) → n ≡ 0 → h ≡ headAt s → r ≡ carries h (take (length s - 16) (drop 16 s)) → r ≡ false → x ≡ refused 15 → x ≡ packetRead s
-unfolding packetRead readRefusal first if_then_else_
-read-fields s l e z f g t i = rw (refusal-fields 32 0x4C s _ l (sym e ∙ z), ← f, ← rest-lent s 16, ← g, t) i
+  pub read-frame : {n : ℕ} → length s ≡ 32 → n ≡ first (frameRefusals 0x4C s) → (n ≡ 0 → ⊥) → read-head.Refused n ≡ packetRead s .head
+  unfolding packetRead readRefusal if_then_else_
+  read-frame {n} l e h = rw (refusal-frame 32 0x4C s _ l (λ z. h (e ∙ z)), ← e, ne-eqb n 0 h)
 
-pub read-taken : (s : List ℕ) {n : ℕ} {h : ReadHead} {r : Bool} {m : List ℕ} → length s ≡ 32 → n ≡ first (frameRefusals 0x4C s) → n ≡ 0 → h ≡ headAt s → r ≡ carries h (take (length s - 16) (drop 16 s)) → r ≡ true → m ≡ drop 16 s → record { head = h; message = m } ≡ packetRead s
-unfolding readRefusal first if_then_else_
-read-taken s l e z f g t i = rw (f, i) (sym (packet-read s (rw (refusal-fields 32 0x4C s _ l (sym e ∙ z), ← f, ← rest-lent s 16, ← g, t))))
+  module _ {n : ℕ} {h : ReadHead} {r : Bool} (l : length s ≡ 32) (e : n ≡ first (frameRefusals 0x4C s)) (z : n ≡ 0) (f : h ≡ headAt s) (g : r ≡ carries h (take (length s - 16) (drop 16 s))) where
+    pub read-fields : r ≡ false → read-head.Refused 15 ≡ packetRead s .head
+    unfolding packetRead readRefusal first if_then_else_
+    read-fields t = rw (refusal-fields 32 0x4C s _ l (sym e ∙ z), ← f, ← rest-lent s 16, ← g, t)
+
+    pub read-taken : r ≡ true → h ≡ packetRead s .head
+    unfolding packetRead readRefusal first if_then_else_
+    read-taken t = rw (refusal-fields 32 0x4C s _ l (sym e ∙ z), ← f, ← rest-lent s 16, ← g, t)
+
+  -- the message beside a head that was read, and 16 zero bytes beside a refusal
+  module _ {x : ReadHead} (e : x ≡ packetRead s .head) where
+    pub read-long : {h : Head} → x ≡ read-head.Is h → length s ≡ 32
+    read-long o = unrefused-long s (head-unrefused s (sym e ∙ o))
+
+    pub read-beside : {h : Head} {m : List ℕ} → x ≡ read-head.Is h → m ≡ drop 16 s → record { head = read-head.Is h; message = m } ≡ packetRead s
+    read-beside o f =
+        let p = packet-read s (head-unrefused s (sym e ∙ o)) in
+        let q = sym o ∙ e in
+        let r = f ∙ sym (ap (λ (r : ReadPacket). r .message) p) in
+        λ i. record { head = q i; message = r i }
+
+    pub refused-beside : {n : ℕ} {r : ReadPacket} → x ≡ read-head.Refused n → r ≡ refused n → r ≡ packetRead s
+    refused-beside o f =
+        let h = head-refused s (sym e ∙ o) in
+        f ∙ sym (refused-read s (λ z. h .1 (sym (h .0) ∙ z)) ∙ ap refused (h .0))
 
 pub ruleset reads = (read-length, read-frame, read-fields, read-taken)
 

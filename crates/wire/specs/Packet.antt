@@ -1,5 +1,5 @@
 -- Packets, 32 bytes: the table of kinds, and what reading and writing are by it. Assumes nothing.
-use Prim.Native.Nat.{ℕ, _^_, _<_}
+use Prim.Native.Nat.{ℕ}
 use mathlib.Core.Bool.{Bool, false, not, _&&_}
 use mathlib.Core.List.{List, [], _∷_, _++_}
 use lib.ListN.{length, getD, drop, replicate}
@@ -107,8 +107,3 @@ writeRefusal n p = first ((12, not (eqb n 32)) ∷ (15, not (fits p)) ∷ [])
 
 unfoldable pub packetWritten : List ℕ → Packet → List ℕ
 packetWritten out p = if eqb (writeRefusal (length out) p) 0 then packetBytes p else out
-
--- what the types of a packet's numbers say, as laws ask it; of its message `fits` says enough
-pub record Typed (p : Packet) : Type 0 where
-  pub first : firstOf (p .head) < 2 ^ 32
-  pub second : secondOf (p .head) < 2 ^ 32

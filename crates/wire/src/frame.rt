@@ -13,12 +13,18 @@ fn wide(x: u8) -> u32
     x as u32
 }
 
+pub fn from_big_endian(bytes: [u8; 4]) -> u32
+    ensures { λ r. ⌜ r ≡ value bytes ⌝ }
+{
+    wide(bytes[0]) * 0x1000000 + wide(bytes[1]) * 0x10000 + wide(bytes[2]) * 0x100 + wide(bytes[3])
+}
+
 // The number in the four bytes from `at` on.
 pub(crate) fn number_at(s: &[u8], at: usize) -> u32
     requires { ⌜ at + 4 ≤ length (now s) ⌝ }
     ensures { λ r. ⌜ r ≡ value (field (now (s .entry)) at 4) ⌝ }
 {
-    wide(s[at]) * 0x1000000 + wide(s[at + 1]) * 0x10000 + wide(s[at + 2]) * 0x100 + wide(s[at + 3])
+    from_big_endian([s[at], s[at + 1], s[at + 2], s[at + 3]])
 }
 
 pub fn big_endian(n: u32) -> [u8; 4]

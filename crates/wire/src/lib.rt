@@ -4,10 +4,12 @@ mod packets;
 mod records;
 
 pub use frame::big_endian;
+pub use frame::from_big_endian;
 pub use packets::Fields;
 pub use packets::direction_of;
 pub use packets::fields_of;
 pub use packets::head_of;
+pub use packets::read_head;
 pub use packets::read_packet;
 pub use packets::write_packet;
 pub use records::end_of;

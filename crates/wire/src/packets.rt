@@ -136,7 +136,7 @@ fn message_at(s: &[u8]) -> [u8; 16]
     ensures { λ r. ⌜ r ≡ drop 16 (now (s .entry)) ⌝ }
 {
     let mut m = [0; 16];
-    bytes::copy(&s[16..], &mut m);
+    bytes::copy(&s[16..32], &mut m);
     m
 }
 
@@ -149,24 +149,35 @@ fn refused_read(n: u8) -> ReadPacket
     }
 }
 
-pub fn read_packet(bytes: &[u8]) -> ReadPacket
-    ensures { λ r. ⌜ r ≡ packetRead (now (bytes .entry)) ⌝ }
+// The head alone, for who has no use for the message: all of the packet is looked at, and nothing is copied.
+pub fn read_head(bytes: &[u8]) -> ReadHead
+    ensures { λ r. ⌜ r ≡ packetRead (now (bytes .entry)) .head ⌝ }
 {
     if bytes.len() != 32 {
-        return refused_read(12);
+        return ReadHead::Refused(12);
     }
     let n = frame_refusal(bytes, b'L');
     if n != 0 {
-        return refused_read(n);
+        return ReadHead::Refused(n);
     }
     let head = head_at(bytes);
     if carries_message(head, &bytes[16..]) {
-        ReadPacket {
-            head,
-            message: message_at(bytes),
-        }
+        head
     } else {
-        refused_read(15)
+        ReadHead::Refused(15)
+    }
+}
+
+pub fn read_packet(bytes: &[u8]) -> ReadPacket
+    ensures { λ r. ⌜ r ≡ packetRead (now (bytes .entry)) ⌝ }
+{
+    let head = read_head(bytes);
+    match head {
+        ReadHead::Refused(n) => refused_read(n),
+        ReadHead::Is(h) => ReadPacket {
+            head: ReadHead::Is(h),
+            message: message_at(bytes),
+        },
     }
 }
 

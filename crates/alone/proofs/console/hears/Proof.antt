@@ -10,5 +10,6 @@ hears-spec =
     (λ c. search needs)
     (λ c. search needs)
     (λ c κs. search needs)
-    (λ c. rw (← c .before .before .before .read-packet .ensures, c .before .head .given .1))
-    (λ c. rw (← c .before .before .before .before .read-packet .ensures, c .before .before .head2 .given .1) (c .takes .ensures)))
+    (λ c κs. search needs)
+    (λ c. rw (← c .before .before .before .read-head .ensures, c .before .head .given .1))
+    (λ c. rw (← c .before .before .before .before .before .read-head .ensures, c .before .before .before .head2 .given .1, ← c .before .for-console .ensures) (c .takes .ensures)))

@@ -1,5 +1,4 @@
 use borrow.Author.Needs.{needs}
-use Rattle.ends.proofs.ConsoleBeside.{message-tested}
 use Rattle.alone.proofs.console.is_good.Statement.{statement}
 use Rattle.alone.proofs.console.is_good.Tie as tie
 
@@ -8,14 +7,13 @@ is-good-spec =
     tie.close
     (tie.spec
     (λ c. search needs)
-    (λ c. search needs)
     (λ c κs. search needs)
     (λ c. search needs)
     (λ c. search needs)
     (λ c. search needs)
     (λ c. search needs)
     (λ c. search needs)
-    (λ c. rw (c .before .before .enum-told .given .1) (message-tested _ (search needs) (c .all-cells .ensures)))
+    (λ c. rw (c .before .before .enum-told .given .1) (c .is-message .ensures))
     (λ c. search needs)
     (λ c. search needs)
     (λ c. search needs)

@@ -1,12 +1,13 @@
 use borrow.Author.Needs.{needs}
 use mathlib.Core.Path.{refl}
 use Rattle.protocol.specs.Ends.{absent}
+use Rattle.ends.specs.Packets.{toControllerSent}
 use Rattle.alone.proofs.ConsoleTold.{written-to-controller}
 use Rattle.alone.proofs.console.send.Statement.{statement}
 use Rattle.alone.proofs.console.send.Tie as tie
 
 pub send-spec : {M : Type 1} → statement M
-unfolding absent
+unfolding absent toControllerSent
 send-spec =
     tie.close
     (tie.spec

@@ -1,12 +1,13 @@
 use borrow.Author.Needs.{needs}
 use mathlib.Core.Path.{refl}
 use Rattle.protocol.specs.Ends.{absent}
+use Rattle.ends.specs.Packets.{toConsoleSent}
 use Rattle.alone.proofs.ControllerTold.{written-to-console}
 use Rattle.alone.proofs.controller.send.Statement.{statement}
 use Rattle.alone.proofs.controller.send.Tie as tie
 
 pub send-spec : {M : Type 1} → statement M
-unfolding absent
+unfolding absent toConsoleSent
 send-spec =
     tie.close
     (tie.spec

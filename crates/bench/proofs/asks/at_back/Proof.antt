@@ -13,4 +13,4 @@ at-back-spec =
     (λ c. rw (le-ltb _ _ (c .if1 .taken)))
     (λ c κs. search needs)
     (λ c κs. search needs)
-    (λ c. rw (lt-ltb _ _ (c .before .before .if1 .left), ← c .before .packet-at .ensures) (c .read-to-console .ensures)))
+    (λ c. rw (lt-ltb _ _ (c .before .before .if1 .left), ← c .before .head-at .ensures) (c .read-to-console .ensures)))

@@ -1,6 +1,5 @@
 use borrow.Author.Needs.{needs}
 use Rattle.ground.specs.Choice.{if_then_else_}
-use Rattle.ends.proofs.ConsoleBeside.{message-tested}
 use Rattle.bench.proofs.inside.is_good.Statement.{statement}
 use Rattle.bench.proofs.inside.is_good.Tie as tie
 
@@ -9,7 +8,6 @@ unfolding if_then_else_
 is-good-spec =
     tie.close
     (tie.spec
-    (λ c. search needs)
     (λ c κs. search needs)
-    (λ c. rw (c .before .before .if1 .taken) (message-tested _ (search needs) (c .all-cells .ensures)))
+    (λ c. rw (c .before .before .if1 .taken) (c .is-message .ensures))
     (λ c. rw (c .if1 .left)))

@@ -1,5 +1,5 @@
 use borrow.Author.Needs.{needs}
-use Rattle.bench.specs.Moving.{toControllerSent}
+use Rattle.ends.specs.Packets.{toControllerSent}
 use Rattle.bench.proofs.moves.from_console.Statement.{statement}
 use Rattle.bench.proofs.moves.from_console.Tie as tie
 

@@ -1,5 +1,5 @@
 use borrow.Author.Needs.{needs}
-use Rattle.bench.specs.Moving.{toConsoleSent}
+use Rattle.ends.specs.Packets.{toConsoleSent}
 use Rattle.bench.proofs.moves.from_controller.Statement.{statement}
 use Rattle.bench.proofs.moves.from_controller.Tie as tie
 

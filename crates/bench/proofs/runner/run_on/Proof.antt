@@ -3,6 +3,7 @@ use Prim.Native.Nat.{_≤_, _-_, _*_}
 use mathlib.Core.Path.{_≡_}
 use borrow.Author.Needs.{needs}
 use lib.ListN.{length}
+use Rattle.records.proofs.Ending.{end-from, end-within}
 use Rattle.bench.specs.Within.{Known, linesOn}
 use Rattle.bench.proofs.Running.{Along, along-first, along-turn, over-limit, over-input, record-some, line-long, limit-low, limit-roomy}
 use Rattle.bench.proofs.runner.run_on.Statement.{statement}
@@ -32,9 +33,9 @@ run-on-spec =
     (λ c. search over-input)
     (λ c κs. search needs)
     (λ c. search needs)
-    (λ c. search needs)
-    (λ c. search needs)
-    (λ c. search needs)
+    (λ c. search (end-from, needs))
+    (λ c. search (end-from, needs))
+    (λ c. end-within _ _ (c .record-end .ensures))
     (λ c. search needs)
     (λ c. search needs)
     (λ c. search needs)
@@ -43,7 +44,7 @@ run-on-spec =
     (λ c κs. (search needs, (search record-some, search line-long)))
     (λ c. search needs)
     (λ c. search needs)
-    (λ c. (search needs, search needs, search needs, search needs, search needs, search needs, search needs, along-turn _ _ _ _ _ _ _ _ _ (c .before .before .before .before .before .before .before .before .before .before .before .before .before .before .loop .inv .7) (search needs) (c .before .before .before .before .before .before .before .before .before .before .before .before .before .before .loop .inv .2) (search needs) (c .before .before .before .before .before .before .before .before .before .before .before .end-of .ensures .0) (c .before .before .before .before .before .before .turn .ensures) (search (line-long, needs))))
+    (λ c. (search needs, search needs, search needs, search needs, search needs, search needs, search needs, along-turn _ _ _ _ _ _ _ _ _ (c .before .before .before .before .before .before .before .before .before .before .before .before .before .before .loop .inv .7) (search needs) (c .before .before .before .before .before .before .before .before .before .before .before .before .before .before .loop .inv .2) (search needs) (c .before .before .before .before .before .before .before .before .before .before .before .record-end .ensures) (c .before .before .before .before .before .before .turn .ensures) (search (line-long, needs))))
     (λ c. search needs)
     (λ c. search needs)
     (λ c. search needs)

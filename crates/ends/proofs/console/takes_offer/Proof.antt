@@ -1,7 +1,6 @@
 use borrow.Author.Needs.{needs}
 use Rattle.ground.specs.Choice.{if_then_else_}
 use Rattle.protocol.specs.Ends.{console-takes}
-use borrow.Author.Tests.{eq-eqb, ne-eqb}
 use Rattle.ends.proofs.console.takes_offer.Statement.{statement}
 use Rattle.ends.proofs.console.takes_offer.Tie as tie
 
@@ -15,11 +14,13 @@ takes-offer-spec =
     (λ c. search needs)
     (λ c κs. search needs)
     (λ c κs. search needs)
+    (λ c κs. search needs)
     (λ c. search needs)
     (λ c κs. search needs)
     (λ c κs. search needs)
+    (λ c κs. search needs)
     (λ c. rw (c .before .enum-told .given .1) (c .sends-done .ensures))
-    (λ c. rw (c .before .before .before .before .before .now .given .1, eq-eqb _ _ (c .before .if1 .taken)) (c .drops .ensures))
-    (λ c. rw (c .before .before .before .before .before .now .given .1, ne-eqb _ _ (c .before .if1 .left)) (c .sends-done2 .ensures))
-    (λ c. rw (c .before .before .before .before .before .now2 .given .1, eq-eqb _ _ (c .before .if2 .taken)) (c .drops2 .ensures))
-    (λ c. rw (c .before .before .before .before .before .now2 .given .1, ne-eqb _ _ (c .before .if2 .left)) (c .sends-done3 .ensures)))
+    (λ c. rw (c .before .before .before .before .now .given .1, ← c .before .before .same-j .ensures, c .before .if1 .taken) (c .drops .ensures))
+    (λ c. rw (c .before .before .before .before .now .given .1, ← c .before .before .same-j .ensures, c .before .if1 .left) (c .sends-done2 .ensures))
+    (λ c. rw (c .before .before .before .before .now2 .given .1, ← c .before .before .same-i .ensures, c .before .if2 .taken) (c .drops2 .ensures))
+    (λ c. rw (c .before .before .before .before .now2 .given .1, ← c .before .before .same-i .ensures, c .before .if2 .left) (c .sends-done3 .ensures)))

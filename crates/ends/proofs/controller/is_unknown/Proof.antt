@@ -11,7 +11,9 @@ is-unknown-spec =
     (tie.spec
     (λ c. search needs)
     (λ c. search needs)
+    (λ c κs. search needs)
     (λ c. search needs)
+    (λ c κs. search needs)
     (λ c. rw (c .enum-told .given .1))
-    (λ c. search (above, c .before .before .before .p .given .1))
-    (λ c. search (above, c .before .before .before .p2 .given .1)))
+    (λ c. rw (c .before .before .p .given .1, ← above) (c .above-i .ensures))
+    (λ c. rw (c .before .before .p2 .given .1, ← above) (c .above-i2 .ensures)))

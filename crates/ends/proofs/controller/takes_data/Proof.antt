@@ -1,7 +1,6 @@
 use borrow.Author.Needs.{needs}
 use Rattle.ground.specs.Choice.{if_then_else_}
 use Rattle.protocol.specs.Ends.{controller-takes}
-use borrow.Author.Tests.{eq-eqb, ne-eqb}
 use Rattle.ends.proofs.controller.takes_data.Statement.{statement}
 use Rattle.ends.proofs.controller.takes_data.Tie as tie
 
@@ -14,11 +13,13 @@ takes-data-spec =
     (λ c κs. search needs)
     (λ c. search needs)
     (λ c κs. search needs)
+    (λ c κs. search needs)
     (λ c. search needs)
     (λ c κs. search needs)
     (λ c κs. search needs)
+    (λ c κs. search needs)
     (λ c. λ next. rw (c .before .enum-told .given .1) (c .sends-lost .ensures))
-    (λ c. λ next. rw (c .before .before .before .before .now .given .1, eq-eqb _ _ (c .if1 .taken)))
-    (λ c. λ next. rw (c .before .before .before .before .before .now .given .1, ne-eqb _ _ (c .before .if1 .left)) (c .sends-lost2 .ensures))
-    (λ c. λ next. rw (c .before .before .before .before .before .now2 .given .1, eq-eqb _ _ (c .before .if2 .taken)) (c .drops .ensures))
-    (λ c. λ next. rw (c .before .before .before .before .before .now2 .given .1, ne-eqb _ _ (c .before .if2 .left)) (c .sends-lost3 .ensures)))
+    (λ c. λ next. rw (c .before .before .before .now .given .1, ← c .before .same-i .ensures, c .if1 .taken))
+    (λ c. λ next. rw (c .before .before .before .before .now .given .1, ← c .before .before .same-i .ensures, c .before .if1 .left) (c .sends-lost2 .ensures))
+    (λ c. λ next. rw (c .before .before .before .before .now2 .given .1, ← c .before .before .same-i2 .ensures, c .before .if2 .taken) (c .drops .ensures))
+    (λ c. λ next. rw (c .before .before .before .before .now2 .given .1, ← c .before .before .same-i2 .ensures, c .before .if2 .left) (c .sends-lost3 .ensures)))

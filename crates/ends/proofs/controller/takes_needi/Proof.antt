@@ -1,5 +1,6 @@
 use borrow.Author.Needs.{needs}
 use Rattle.ends.proofs.ControllerActs.{needI-spent, needI-next, needI-accept, needI-ack}
+use Rattle.ends.proofs.Counting.{next-fits}
 use Rattle.ends.proofs.controller.takes_needi.Statement.{statement}
 use Rattle.ends.proofs.controller.takes_needi.Tie as tie
 
@@ -9,8 +10,9 @@ takes-needi-spec =
     (tie.spec
     (λ c. search needs)
     (λ c κs. search needs)
+    (λ c κs. search needs)
     (λ c. search needI-spent)
-    (λ c. search needs)
+    (λ c. search (next-fits, needs))
     (λ c κs. search needs)
     (λ c. search needs)
     (λ c κs. search needs)

@@ -1,3 +1,4 @@
+use borrow.Author.Needs.{needs}
 use Rattle.ends.proofs.ConsoleFields.{modes}
 use Rattle.ends.proofs.fields.console_end.Statement.{statement}
 use Rattle.ends.proofs.fields.console_end.Tie as tie
@@ -7,5 +8,6 @@ console-end-spec =
     tie.close
     (tie.spec
     (λ c. search modes)
+    (λ c κs. search needs)
     (λ c. search modes)
     (λ c. search modes))

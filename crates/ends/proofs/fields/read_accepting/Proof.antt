@@ -7,8 +7,11 @@ pub read-accepting-spec : {M : Type 1} → statement M
 read-accepting-spec =
     tie.close
     (tie.spec
+    (λ c κs. search needs)
     (λ c. search accepting)
+    (λ c κs. search needs)
     (λ c. search accepting)
+    (λ c κs. search needs)
     (λ c. search accepting)
     (λ c κs. search needs)
     (λ c. search accepting))

@@ -7,7 +7,9 @@ pub read-idle-spec : {M : Type 1} → statement M
 read-idle-spec =
     tie.close
     (tie.spec
+    (λ c κs. search needs)
     (λ c. search not-holding)
+    (λ c κs. search needs)
     (λ c. search not-holding)
     (λ c. search needs)
     (λ c κs. search needs)

@@ -9,6 +9,7 @@ message-fits-spec =
     tie.close
     (tie.spec
     (λ c κs. search needs)
+    (λ c. search needs)
     (λ c κs. search needs)
     (λ c. search message-used)
-    (λ c. search message-unused))
+    (λ c. search (message-unused, needs)))

@@ -1,11 +1,12 @@
 use borrow.Author.Needs.{needs}
-use Rattle.bench.proofs.asks.to_controller.Statement.{statement}
-use Rattle.bench.proofs.asks.to_controller.Tie as tie
+use Rattle.ends.proofs.beside.for_console.Statement.{statement}
+use Rattle.ends.proofs.beside.for_console.Tie as tie
 
-pub to-controller-spec : {M : Type 1} → statement M
-to-controller-spec =
+pub for-console-spec : {M : Type 1} → statement M
+for-console-spec =
     tie.close
     (tie.spec
+    (λ c. search needs)
     (λ c. search needs)
     (λ c. search needs)
     (λ c. search needs)
@@ -15,6 +16,5 @@ to-controller-spec =
     (λ c. rw (c .before .head .given .1))
     (λ c. search needs)
     (λ c. rw (c .before .head2 .given .1))
-    (λ c. search needs)
-    (λ c. search needs)
-    (λ c. rw (c .before .head3 .given .1)))
+    (λ c. rw (c .before .head3 .given .1))
+    (λ c. search needs))

@@ -1,12 +1,11 @@
 use borrow.Author.Needs.{needs}
-use Rattle.bench.proofs.asks.to_console.Statement.{statement}
-use Rattle.bench.proofs.asks.to_console.Tie as tie
+use Rattle.ends.proofs.beside.for_controller.Statement.{statement}
+use Rattle.ends.proofs.beside.for_controller.Tie as tie
 
-pub to-console-spec : {M : Type 1} → statement M
-to-console-spec =
+pub for-controller-spec : {M : Type 1} → statement M
+for-controller-spec =
     tie.close
     (tie.spec
-    (λ c. search needs)
     (λ c. search needs)
     (λ c. search needs)
     (λ c. search needs)
@@ -16,5 +15,6 @@ to-console-spec =
     (λ c. rw (c .before .head .given .1))
     (λ c. search needs)
     (λ c. rw (c .before .head2 .given .1))
-    (λ c. rw (c .before .head3 .given .1))
-    (λ c. search needs))
+    (λ c. search needs)
+    (λ c. search needs)
+    (λ c. rw (c .before .head3 .given .1)))

@@ -1,0 +1,71 @@
+-- The starred checks of the bench's own step: from the bench of each line on, it tells and leaves what the line says.
+use Prim.Native.Nat.{ℕ}
+use mathlib.Core.Path.{_≡_, refl, ap, ap₂, _∙_}
+use mathlib.Core.Bool.{true}
+use mathlib.Core.List.{List, [], _∷_, map}
+use native.Mathlib.Omega.{arith}
+use Rattle.ground.specs.Cell.{cells, isMessage}
+use Rattle.protocol.specs.Supply.{counted}
+use Rattle.protocol.specs.Bench as rules
+use Rattle.protocol.specs.Ends.{ConsoleMode, ControllerMode, order}
+use Rattle.protocol.specs.Lists.{All}
+use Rattle.protocol.specs.Starred.{Check, a, played, starred}
+use Rattle.protocol.specs.WellFormed.{Well-formed}
+use Rattle.protocol.proofs.Starred.{starred-hold}
+use Rattle.protocol.proofs.WellFormed.{fresh-well-formed}
+use Rattle.ends.specs.declared.Report.{Report}
+use Rattle.bench.specs.Means.{benchBack}
+use Rattle.bench.specs.Orders.{outcomes, leaves}
+use Rattle.bench.specs.declared.Bench.{Bench}
+use Rattle.bench.proofs.Orders.{out, back, coded, told, toldOf, reports-are, leaves-are}
+
+abbrev Seen : Type 0
+Seen = List (Report × List ℕ) × (Bench × List ℕ × List ℕ)
+
+-- what the step tells and leaves
+abbrev pub seen : Check → Seen
+seen c =
+    let b = benchBack (c .start) in
+    let l = map coded (c .actions) in
+    (map told (outcomes b (out (c .start)) (back (c .start)) l), leaves b (out (c .start)) (back (c .start)) l)
+
+-- what the line says
+abbrev pub says : Check → Seen
+says c = (map toldOf (c .said), (benchBack (c .left), out (c .left), back (c .left)))
+
+abbrev Starts : Check → Type 0
+Starts c = Well-formed counted isMessage (c .start)
+
+one : (c : Check) → Starts c → seen c ≡ says (played c)
+unfolding played
+one c w = λ i. (reports-are (c .start) w (c .actions) i, leaves-are (c .start) w (c .actions) i)
+
+each : (cs : List Check) → All Starts cs → map seen cs ≡ map says (map played cs)
+each [] w = refl
+each (c ∷ cs) w = ap₂ (λ (x : Seen) (l : List Seen). x ∷ l) (one c (w .0)) (each cs (w .1))
+
+ready : (j i : ℕ) → counted .sound j ≡ true → counted .sound i ≡ true → Well-formed counted isMessage (rules.fresh j i)
+ready j i p q = fresh-well-formed counted isMessage j i p q
+
+-- last used I 3, and data with I 5 on its way
+stray : Well-formed counted isMessage (record { console = record { numbers = 0; mode = ConsoleMode.idle; up = true }; controller = record { numbers = 3; mode = ControllerMode.idle; up = true }; toController = order 5 a ∷ []; toConsole = [] })
+unfolding isMessage cells
+stray =
+    record {
+      console = record { numbers = refl; mode = tt };
+      controller = record { numbers = refl; mode = tt };
+      to-controller = ((refl, refl), tt);
+      to-controller-room = omega arith;
+      to-console = tt;
+      to-console-room = omega arith;
+    }
+
+-- every line starts from a well-formed bench
+started : All Starts starred
+unfolding starred
+started =
+    let new = ready 0 0 refl refl in
+    (new, (ready 4_294_967_294 0 refl refl, (ready 4_294_967_295 0 refl refl, (ready 0 4_294_967_295 refl refl, (new, (new, (new, (new, (new, (new, (new, (new, (stray, tt)))))))))))))
+
+pub starred-of-the-step : map seen starred ≡ map says starred
+starred-of-the-step = each starred started ∙ ap (map says) starred-hold

@@ -1,0 +1,13 @@
+use borrow.Author.Needs.{needs}
+use Rattle.records.proofs.Ending.{record-ends}
+use Rattle.records.proofs.reading.record_end.Statement.{statement}
+use Rattle.records.proofs.reading.record_end.Tie as tie
+
+pub record-end-spec : {M : Type 1} → statement M
+record-end-spec =
+    tie.close
+    (tie.spec
+    (λ c. search record-ends)
+    (λ c. search needs)
+    (λ c. search record-ends)
+    (λ c. search record-ends))

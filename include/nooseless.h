@@ -1,8 +1,10 @@
 /*
- * Nooseless for C: packets, number records, and each end of the link run alone in its box.
+ * Nooseless for C: packets, number records, each end of the link run alone in its box, and a bench that holds both ends and both
+ * channels, with the runner of a list of actions.
  *
- * Every entry takes any bytes and any numbers. It returns one byte: 0, a refusal from 1 to 15, or what a step tells. A refusal
- * leaves every lent buffer byte for byte. Each entry is proved to do so, and to do what its lines below say.
+ * Every entry takes any bytes and any numbers. It returns one byte: 0, a refusal from 1 to 15, or what a step tells; the runner
+ * returns a number of bytes. A refusal leaves every lent buffer byte for byte. Each entry is proved to do so, and to do what its
+ * lines below say.
  *
  * The caller owes what C always owes: a pointer that is good for its length, not NULL even where that is 0, and, where it is
  * lent to be written, no overlap with another buffer of the same call. No entry keeps a pointer, allocates, or waits.
@@ -24,13 +26,17 @@ extern "C" {
 #define NOOSELESS_RECORD 12
 #define NOOSELESS_CONSOLE_STATE 30
 #define NOOSELESS_CONTROLLER_STATE 17
+#define NOOSELESS_BENCH_STATE 49
+#define NOOSELESS_TABLE 2048
+#define NOOSELESS_LIST_RECORD 21
+#define NOOSELESS_LINE 27
 
 /* ---- Refusals. The first that applies, in this order: 1, 2, 12, 13, 14, 15, 11, 10, 4 or 5, 6, 8, 3, 7, 9. Each entry below names
  * those that it gives, in their order, without NOOSELESS_. 3, 9 and 10 speak of places and copies. ---- */
 
 enum nooseless_refusal {
     NOOSELESS_NO_ACTION = 1,      /* a letter that is no action here */
-    NOOSELESS_ILL_FORMED = 2,     /* a state not well formed, or of another length */
+    NOOSELESS_ILL_FORMED = 2,     /* a state or a table not well formed, or of another length */
     NOOSELESS_NO_PLACE = 3,       /* place not below the count */
     NOOSELESS_IS_DOWN = 4,        /* P Q D S with the console down, O K R with the controller down */
     NOOSELESS_IS_UP = 5,          /* V or Y with that end up */
@@ -110,6 +116,8 @@ enum nooseless_told {
     NOOSELESS_ANSWER_OK = 17, /* the console: the order that was held is delivered */
     NOOSELESS_ANSWER_LOST = 18 /* the console: the controller went down and came back; the order won't be delivered later */
 };
+/* Lost does not say that the order was not delivered: it may have been, before the controller went down. To put it again may double a
+ * dose, so the row leaves that to a person. An order that the console held when it went down is never answered, neither by V nor later. */
 #define NOOSELESS_SENT 0x80
 #define NOOSELESS_REPORT(told) ((uint8_t)((told) & 0x7F))
 #define NOOSELESS_IS_REFUSAL(told) (0 < (told) && (told) < 16)
@@ -129,6 +137,54 @@ uint8_t nooseless_console_step(uint8_t *state, size_t state_len, uint8_t letter,
  */
 uint8_t nooseless_controller_step(uint8_t *state, size_t state_len, uint8_t letter, const uint8_t *packet, size_t packet_len,
                                   uint8_t *reply, size_t reply_len, uint8_t delivered[NOOSELESS_MESSAGE]);
+
+/* ---- A bench: both ends and both channels ----
+ *
+ * The caller keeps a state of 49 bytes and two tables of 2,048 bytes: `out` holds the packets on their way to the controller, `back`
+ * those on their way to the console. Packets lie one after another, 32 bytes each, from the start of a table; all bytes after them
+ * are 0.
+ *
+ *   state, 49 bytes: 0-29 the console; 30-46 the controller; 47 packets on their way to the controller; 48 to the console
+ *
+ * Bytes are never trusted: what makes an end's state ill formed does so here, and so does a table of another length, a count above
+ * 64, below the count bytes that are no packet of that direction, above it a byte that is not 0.
+ */
+
+/* Both ends up and idle with these last used, both tables cleared. Refusals: ILL_FORMED, for a length alone. */
+uint8_t nooseless_bench_fresh(uint8_t *state, size_t state_len, uint8_t *out, size_t out_len, uint8_t *back, size_t back_len,
+                              uint32_t console_last_used, uint32_t controller_last_used);
+
+/*
+ * One of the thirteen actions: P Q D S C V, O K R X Y, and L M, which lose a packet on its way to the controller and to the console.
+ * `place` is looked at by S R L M alone, `copies` by Q D S O K R, `message` by P. Returns what an end's step does, without
+ * NOOSELESS_SENT; `delivered` is written with NOOSELESS_DELIVERED and else untouched. Refusals: NO_ACTION, ILL_FORMED, NO_CELL,
+ * MANY_COPIES, IS_DOWN, IS_UP, OTHER_MODE, SPENT, NO_PLACE, NEVER_GIVEN, NO_ROOM.
+ */
+uint8_t nooseless_bench_step(uint8_t *state, size_t state_len, uint8_t *out, size_t out_len, uint8_t *back, size_t back_len,
+                             uint8_t letter, size_t place, size_t copies, const uint8_t message[NOOSELESS_MESSAGE],
+                             uint8_t delivered[NOOSELESS_MESSAGE]);
+
+/*
+ * Where the packet at a place lies: `offset` gets the offset of its 32 bytes in the table of the channel that leads to `end`, which is
+ * `back` for NOOSELESS_CONSOLE and `out` for NOOSELESS_CONTROLLER; any other end has no places. It looks only at the lengths, at both
+ * counts and at the place. Refusals: ILL_FORMED, NO_PLACE.
+ */
+uint8_t nooseless_bench_show(const uint8_t *state, size_t state_len, const uint8_t *out, size_t out_len, const uint8_t *back,
+                             size_t back_len, uint8_t end, size_t place, size_t *offset);
+
+/* ---- A list of actions ----
+ *
+ * A record is 21 bytes: letter; place, two digits 00 to 63; copies, one digit 0 to 3; 16 message cells; byte 0x0A. Fields that the
+ * letter doesn't use are 0 digits and spaces. A line is 27 bytes: record number, four digits; space; the letter, or ? for refusal 1;
+ * space; DL, OK, LO, -- or the refusal number; space; the delivered message or 16 spaces; byte 0x0A.
+ */
+
+#define NOOSELESS_RECORDS_MAX 9999
+
+/* Plays the records on a fresh bench with 0 and 0 and writes a line for each, as many as there is room for, at most 9,999. Anything
+ * that is no record, a short last one included, is refusal 1 in its line. Returns the bytes written; the rest of `output` is
+ * untouched. */
+size_t nooseless_run(const uint8_t *input, size_t input_len, uint8_t *output, size_t output_len);
 
 #ifdef __cplusplus
 }

@@ -28,10 +28,19 @@ use Rattle.boxes.proofs.controller.nooseless_controller_record.Kinds as
 use Rattle.boxes.proofs.controller.nooseless_controller_record.Reads as controller-record
 use Rattle.boxes.proofs.controller.nooseless_controller_step.Kinds as controller-step-kinds
 use Rattle.boxes.proofs.controller.nooseless_controller_step.Reads as controller-step
+use Rattle.boxes.proofs.benches.nooseless_bench_fresh.Kinds as bench-fresh-kinds
+use Rattle.boxes.proofs.benches.nooseless_bench_fresh.Reads as bench-fresh
+use Rattle.boxes.proofs.benches.nooseless_bench_step.Kinds as bench-step-kinds
+use Rattle.boxes.proofs.benches.nooseless_bench_step.Reads as bench-step
+use Rattle.boxes.proofs.benches.nooseless_bench_show.Kinds as bench-show-kinds
+use Rattle.boxes.proofs.benches.nooseless_bench_show.Reads as bench-show
+use Rattle.boxes.proofs.lists.nooseless_run.Kinds as run-kinds
+use Rattle.boxes.proofs.lists.nooseless_run.Reads as run
 use Rattle.boxes.specs.Packets.{PacketOut}
 use Rattle.boxes.specs.Records.{RecordOut}
 use Rattle.boxes.specs.Console.{ConsoleStep}
 use Rattle.boxes.specs.Controller.{ControllerStep}
+use Rattle.boxes.specs.Benches.{BenchPut}
 
 pub read-packet-determined : DeterminedWith read-packet-kinds.ps read-packet-kinds.r read-packet.Post {B = ℕ × ℕ × ℕ × List ℕ} (λ κs s. (now (s .1 .0), now (s .1 .1 .0), now (s .1 .1 .1 .0), now (s .1 .1 .1 .1 .0)))
 read-packet-determined κs a x y s t p q =
@@ -72,3 +81,19 @@ controller-record-determined κs a x y s t p q = (p .0 ∙ sym (q .0), p .1 ∙ 
 pub controller-step-determined : DeterminedWith controller-step-kinds.ps controller-step-kinds.r controller-step.Post {B = List ℕ × List ℕ × List ℕ} (λ κs s. (now (s .0), now (s .1 .1 .1 .0), now (s .1 .1 .1 .1 .0)))
 controller-step-determined κs a x y s t p q =
     let e = p ∙ sym q in (ap (λ (r : ControllerStep). r .told) e, λ i. (e i .state, e i .reply, e i .delivered))
+
+pub bench-fresh-determined : DeterminedWith bench-fresh-kinds.ps bench-fresh-kinds.r bench-fresh.Post {B = List ℕ × List ℕ × List ℕ} (λ κs s. (now (s .0), now (s .1 .0), now (s .1 .1 .0)))
+bench-fresh-determined κs a x y s t p q =
+    let e = p ∙ sym q in (ap (λ (r : BenchPut). r .told) e, λ i. (e i .state, e i .out, e i .back))
+
+pub bench-step-determined : DeterminedWith bench-step-kinds.ps bench-step-kinds.r bench-step.Post {B = List ℕ × List ℕ × List ℕ × List ℕ} (λ κs s. (now (s .0), now (s .1 .0), now (s .1 .1 .0), now (s .1 .1 .1 .1 .1 .1 .1 .0)))
+bench-step-determined κs a x y s t p q =
+    let e = p .0 ∙ sym (q .0) in
+    let d = p .1 ∙ sym (q .1) in
+    (ap (λ (r : BenchPut). r .told) e, λ i. (e i .state, e i .out, e i .back, d i))
+
+pub bench-show-determined : DeterminedWith bench-show-kinds.ps bench-show-kinds.r bench-show.Post (λ κs s. now (s .1 .1 .1 .1 .1 .0))
+bench-show-determined κs a x y s t p q = (p .0 ∙ sym (q .0), p .1 ∙ sym (q .1))
+
+pub run-determined : DeterminedWith run-kinds.ps run-kinds.r run.Post (λ κs s. now (s .1 .0))
+run-determined κs a x y s t p q = (p .number ∙ sym (q .number), p .whole ∙ sym (q .whole))

@@ -12,7 +12,7 @@ use Rattle.wire.specs.declared.ReadRecord.{ReadRecord}
 use Rattle.wire.specs.declared.ReadRecord.the-variants as read-record
 use Rattle.ends.specs.declared.Report.{Report}
 use Rattle.boxes.specs.declared.state.Last.{Last}
-use Rattle.boxes.specs.State.{isRefusal, lastOf, lastIn, lengthRefusal, written, startRefusal, started, recordRefusal, recordPut}
+use Rattle.boxes.specs.State.{isRefusal, lastOf, lastIn, lengthRefusal, written, startRefusal, started, stateRecordRefusal, stateRecordPut}
 
 pub length-2 : (n : ℕ) (s : List ℕ) → (length s ≡ n → ⊥) → 2 ≡ lengthRefusal n s
 unfolding lengthRefusal if_then_else_
@@ -89,18 +89,18 @@ pub ruleset startings = (started-2, started-n, started-0)
 
 -- the number record of a state
 module _ (ok : Bool) (out : List ℕ) where
-  pub record-2 : ok ≡ false → 2 ≡ recordRefusal ok out
-  unfolding recordRefusal if_then_else_
+  pub record-2 : ok ≡ false → 2 ≡ stateRecordRefusal ok out
+  unfolding stateRecordRefusal if_then_else_
   record-2 f = rw f
 
-  pub record-n : {n : ℕ} → ok ≡ true → n ≡ recordWriteRefusal (length out) → n ≡ recordRefusal ok out
-  unfolding recordRefusal if_then_else_
+  pub record-n : {n : ℕ} → ok ≡ true → n ≡ recordWriteRefusal (length out) → n ≡ stateRecordRefusal ok out
+  unfolding stateRecordRefusal if_then_else_
   record-n t e = rw t e
 
-  pub record-kept : (u : LastUsed) → ok ≡ false → out ≡ recordPut ok u out
-  unfolding recordPut if_then_else_
+  pub record-kept : (u : LastUsed) → ok ≡ false → out ≡ stateRecordPut ok u out
+  unfolding stateRecordPut if_then_else_
   record-kept u f = rw f
 
-  pub record-put : (u : LastUsed) {v : LastUsed} {x : List ℕ} → ok ≡ true → v ≡ u → x ≡ recordWritten out v → x ≡ recordPut ok u out
-  unfolding recordPut if_then_else_
+  pub record-put : (u : LastUsed) {v : LastUsed} {x : List ℕ} → ok ≡ true → v ≡ u → x ≡ recordWritten out v → x ≡ stateRecordPut ok u out
+  unfolding stateRecordPut if_then_else_
   record-put u t e f = rw (t, ← e) f

@@ -1,3 +1,6 @@
+pub mod BenchKept
+pub mod BenchTrips
+pub mod Benching
 pub mod ConsoleTrips
 pub mod ControllerTrips
 pub mod Determined
@@ -8,3 +11,7 @@ pub mod Reading
 pub mod Stepping
 pub mod Writing
 pub mod Wrong
+pub mod WrongBench
+pub mod WrongList
+pub mod WrongPackets
+pub mod WrongStates

@@ -15,7 +15,7 @@ use Rattle.wire.specs.declared.ReadPacket.{ReadPacket}
 use Rattle.wire.specs.declared.ReadRecord.{ReadRecord}
 use Rattle.wire.specs.declared.ReadRecord.the-variants as read-record
 use Rattle.boxes.specs.Packets.{PacketOut, packetOut, headRefusal, headPut}
-use Rattle.boxes.specs.Records.{RecordOut, recordOut, putRefusal, recordPut}
+use Rattle.boxes.specs.Records.{RecordOut, recordOut, recordPutRefusal, recordPut}
 
 -- a packet that is read
 module _ (s : List ℕ) (k a b : ℕ) (o : List ℕ) {p : ReadPacket} (e : p ≡ packetRead s) where
@@ -62,15 +62,15 @@ pub ruleset record-reads = (record-refused, record-read)
 
 -- a number record that is written
 module _ (out : List ℕ) (x y : ℕ) {r : ReadRecord} (e : r ≡ lastUsedOf x y) where
-  pub end-15 : {n : ℕ} → r ≡ read-record.Refused n → length out ≡ 12 → 15 ≡ putRefusal (length out) (lastUsedOf x y)
+  pub end-15 : {n : ℕ} → r ≡ read-record.Refused n → length out ≡ 12 → 15 ≡ recordPutRefusal (length out) (lastUsedOf x y)
   unfolding if_then_else_
   end-15 f l = rw (← e, f, l)
 
-  pub end-12 : {n : ℕ} → r ≡ read-record.Refused n → (length out ≡ 12 → ⊥) → 12 ≡ putRefusal (length out) (lastUsedOf x y)
+  pub end-12 : {n : ℕ} → r ≡ read-record.Refused n → (length out ≡ 12 → ⊥) → 12 ≡ recordPutRefusal (length out) (lastUsedOf x y)
   unfolding if_then_else_
   end-12 f l = rw (← e, f, ne-eqb (length out) 12 l)
 
-  pub end-n : {u : LastUsed} {n : ℕ} → r ≡ read-record.Is u → n ≡ recordWriteRefusal (length out) → n ≡ putRefusal (length out) (lastUsedOf x y)
+  pub end-n : {u : LastUsed} {n : ℕ} → r ≡ read-record.Is u → n ≡ recordWriteRefusal (length out) → n ≡ recordPutRefusal (length out) (lastUsedOf x y)
   end-n f w = rw (← e, f) w
 
   pub end-kept : {n : ℕ} → r ≡ read-record.Refused n → out ≡ recordPut out (lastUsedOf x y)

@@ -25,7 +25,7 @@ use Rattle.alone.specs.ControllerAlone.{ControllerAlone, controllerAlone}
 use Rattle.alone.specs.declared.console.ConsoleOutcome.{ConsoleOutcome}
 use Rattle.alone.specs.declared.controller.ControllerOutcome.{ControllerOutcome}
 use Rattle.boxes.specs.declared.state.Last.{Last}
-use Rattle.boxes.specs.State.{isRefusal, told, written, started, recordRefusal, recordPut}
+use Rattle.boxes.specs.State.{isRefusal, told, written, started, stateRecordRefusal, stateRecordPut}
 use Rattle.boxes.specs.Console as console
 use Rattle.boxes.specs.Controller as controller
 use Rattle.boxes.proofs.Keeping.{started-0, record-2, record-n, record-kept, record-put}
@@ -46,16 +46,16 @@ module _ (s out : List ℕ) {c : Console} {r : ConsoleRead} (e : c ≡ console.c
   console-is-ok : {x : console-end.End} → r ≡ console-read.Is x → consoleOk (console.consoleAt s) ≡ true
   console-is-ok g = rw (← e) (console-fields.was-read c (sym f ∙ g) .0)
 
-  pub console-record-2 : r ≡ console-read.IllFormed → 2 ≡ recordRefusal (consoleOk (console.consoleAt s)) out
+  pub console-record-2 : r ≡ console-read.IllFormed → 2 ≡ stateRecordRefusal (consoleOk (console.consoleAt s)) out
   console-record-2 g = record-2 _ out (console-not-ok g)
 
-  pub console-record-n : {x : console-end.End} {n : ℕ} → r ≡ console-read.Is x → n ≡ recordWriteRefusal (length out) → n ≡ recordRefusal (consoleOk (console.consoleAt s)) out
+  pub console-record-n : {x : console-end.End} {n : ℕ} → r ≡ console-read.Is x → n ≡ recordWriteRefusal (length out) → n ≡ stateRecordRefusal (consoleOk (console.consoleAt s)) out
   console-record-n g h = record-n _ out (console-is-ok g) h
 
-  pub console-record-kept : r ≡ console-read.IllFormed → out ≡ recordPut (consoleOk (console.consoleAt s)) (last-used.Console (console.consoleAt s .used)) out
+  pub console-record-kept : r ≡ console-read.IllFormed → out ≡ stateRecordPut (consoleOk (console.consoleAt s)) (last-used.Console (console.consoleAt s .used)) out
   console-record-kept g = record-kept _ out _ (console-not-ok g)
 
-  pub console-record-put : {x : console-end.End} {y : List ℕ} → r ≡ console-read.Is x → y ≡ recordWritten out (last-used.Console (c .used)) → y ≡ recordPut (consoleOk (console.consoleAt s)) (last-used.Console (console.consoleAt s .used)) out
+  pub console-record-put : {x : console-end.End} {y : List ℕ} → r ≡ console-read.Is x → y ≡ recordWritten out (last-used.Console (c .used)) → y ≡ stateRecordPut (consoleOk (console.consoleAt s)) (last-used.Console (console.consoleAt s .used)) out
   console-record-put g h = record-put _ out _ (console-is-ok g) (ap (λ (d : Console). last-used.Console (d .used)) e) h
 
 pub ruleset console-record-refusals = (console-record-2, console-record-n)
@@ -85,16 +85,16 @@ module _ (s out : List ℕ) {c : Controller} {r : ControllerRead} (e : c ≡ con
   controller-is-ok : {x : controller-end.End} → r ≡ controller-read.Is x → controllerOk (controller.controllerAt s) ≡ true
   controller-is-ok g = rw (← e) (controller-fields.was-read c (sym f ∙ g) .0)
 
-  pub controller-record-2 : r ≡ controller-read.IllFormed → 2 ≡ recordRefusal (controllerOk (controller.controllerAt s)) out
+  pub controller-record-2 : r ≡ controller-read.IllFormed → 2 ≡ stateRecordRefusal (controllerOk (controller.controllerAt s)) out
   controller-record-2 g = record-2 _ out (controller-not-ok g)
 
-  pub controller-record-n : {x : controller-end.End} {n : ℕ} → r ≡ controller-read.Is x → n ≡ recordWriteRefusal (length out) → n ≡ recordRefusal (controllerOk (controller.controllerAt s)) out
+  pub controller-record-n : {x : controller-end.End} {n : ℕ} → r ≡ controller-read.Is x → n ≡ recordWriteRefusal (length out) → n ≡ stateRecordRefusal (controllerOk (controller.controllerAt s)) out
   controller-record-n g h = record-n _ out (controller-is-ok g) h
 
-  pub controller-record-kept : r ≡ controller-read.IllFormed → out ≡ recordPut (controllerOk (controller.controllerAt s)) (last-used.Controller (controller.controllerAt s .used)) out
+  pub controller-record-kept : r ≡ controller-read.IllFormed → out ≡ stateRecordPut (controllerOk (controller.controllerAt s)) (last-used.Controller (controller.controllerAt s .used)) out
   controller-record-kept g = record-kept _ out _ (controller-not-ok g)
 
-  pub controller-record-put : {x : controller-end.End} {y : List ℕ} → r ≡ controller-read.Is x → y ≡ recordWritten out (last-used.Controller (c .used)) → y ≡ recordPut (controllerOk (controller.controllerAt s)) (last-used.Controller (controller.controllerAt s .used)) out
+  pub controller-record-put : {x : controller-end.End} {y : List ℕ} → r ≡ controller-read.Is x → y ≡ recordWritten out (last-used.Controller (c .used)) → y ≡ stateRecordPut (controllerOk (controller.controllerAt s)) (last-used.Controller (controller.controllerAt s .used)) out
   controller-record-put g h = record-put _ out _ (controller-is-ok g) (ap (λ (d : Controller). last-used.Controller (d .used)) e) h
 
 pub ruleset controller-record-refusals = (controller-record-2, controller-record-n)

@@ -1,3 +1,4 @@
+pub mod Benches
 pub mod Console
 pub mod Controller
 pub mod Packets

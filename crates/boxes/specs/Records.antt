@@ -19,9 +19,9 @@ recordOut (Refused r) e n = record { refusal = r; end = e; number = n }
 recordOut (Is u) e n = record { refusal = 0; end = endOf u; number = numberOf u }
 
 -- an end that is no end is 15, after 12
-abbrev pub putRefusal : ℕ → ReadRecord → ℕ
-putRefusal n (Refused r) = if eqb n 12 then 15 else 12
-putRefusal n (Is u) = recordWriteRefusal n
+abbrev pub recordPutRefusal : ℕ → ReadRecord → ℕ
+recordPutRefusal n (Refused r) = if eqb n 12 then 15 else 12
+recordPutRefusal n (Is u) = recordWriteRefusal n
 
 abbrev pub recordPut : List ℕ → ReadRecord → List ℕ
 recordPut out (Refused r) = out

@@ -58,8 +58,8 @@ unfoldable pub started : ℕ → List ℕ → Last → List ℕ → List ℕ
 started n s l bytes = if eqb (startRefusal n s l) 0 then bytes else s
 
 -- the number record of a state that is well formed or not: 2, then 12
-unfoldable pub recordRefusal : Bool → List ℕ → ℕ
-recordRefusal ok out = if ok then recordWriteRefusal (length out) else 2
+unfoldable pub stateRecordRefusal : Bool → List ℕ → ℕ
+stateRecordRefusal ok out = if ok then recordWriteRefusal (length out) else 2
 
-unfoldable pub recordPut : Bool → LastUsed → List ℕ → List ℕ
-recordPut ok u out = if ok then recordWritten out u else out
+unfoldable pub stateRecordPut : Bool → LastUsed → List ℕ → List ℕ
+stateRecordPut ok u out = if ok then recordWritten out u else out

@@ -14,7 +14,7 @@ ghost use mathlib.Core.Path.{_≡_};
 ghost use lib.ListN.{length, drop};
 ghost use Rattle.ground.specs.Choice.{if_then_else_};
 ghost use Rattle.ends.specs.Fields.{freshConsole, consoleOk};
-ghost use Rattle.boxes.specs.State.{isRefusal, lengthRefusal, written, startRefusal, started, recordRefusal, recordPut};
+ghost use Rattle.boxes.specs.State.{isRefusal, lengthRefusal, written, startRefusal, started, stateRecordRefusal, stateRecordPut};
 ghost use Rattle.boxes.specs.Console.{front, consoleBytes, fieldsAt, noConsole, consoleAt};
 ghost use Rattle.boxes.specs.Console.{lastAt, downedBytes, ConsoleStep, consoleStep};
 
@@ -46,7 +46,7 @@ fn fields_at(s: &[u8]) -> Console
 }
 
 // No console: a j with no message held, which every entry refuses as not well formed.
-fn no_console() -> Console
+pub(crate) fn no_console() -> Console
     ensures { λ r. ⌜ r ≡ noConsole ⌝ }
 {
     Console {
@@ -59,7 +59,7 @@ fn no_console() -> Console
     }
 }
 
-fn console_at(s: &[u8]) -> Console
+pub(crate) fn console_at(s: &[u8]) -> Console
     ensures { λ r. ⌜ r ≡ consoleAt (now (s .entry)) ⌝ }
 {
     if s.len() != 30 {
@@ -101,7 +101,7 @@ fn numbers_and_flags(c: Console) -> [u8; 14]
     ]
 }
 
-fn put_console(state: &mut [u8], c: Console)
+pub(crate) fn put_console(state: &mut [u8], c: Console)
     requires { ⌜ length (now state) ≡ 30 ⌝ }
     ensures { λ _. ⌜ now (state .exit) ≡ consoleBytes c ⌝ }
 {
@@ -148,7 +148,7 @@ pub extern "C" fn nooseless_console_downed(state: &mut [u8], record: &[u8]) -> u
 // The number record to keep before a packet that bears a new number leaves.
 #[no_mangle]
 pub extern "C" fn nooseless_console_record(state: &[u8], out: &mut [u8]) -> u8
-    ensures { λ r. ⌜ (r ≡ recordRefusal (consoleOk (consoleAt (now (state .entry)))) (now (out .entry))) × (now (out .exit) ≡ recordPut (consoleOk (consoleAt (now (state .entry)))) (LastUsed.Console (consoleAt (now (state .entry)) .used)) (now (out .entry))) ⌝ }
+    ensures { λ r. ⌜ (r ≡ stateRecordRefusal (consoleOk (consoleAt (now (state .entry)))) (now (out .entry))) × (now (out .exit) ≡ stateRecordPut (consoleOk (consoleAt (now (state .entry)))) (LastUsed.Console (consoleAt (now (state .entry)) .used)) (now (out .entry))) ⌝ }
 {
     let c = console_at(state);
     let used = c.used;

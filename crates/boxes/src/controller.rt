@@ -14,7 +14,7 @@ ghost use mathlib.Core.Path.{_≡_};
 ghost use lib.ListN.{length};
 ghost use Rattle.ground.specs.Choice.{if_then_else_};
 ghost use Rattle.ends.specs.Fields.{freshController, controllerOk};
-ghost use Rattle.boxes.specs.State.{isRefusal, lengthRefusal, written, startRefusal, started, recordRefusal, recordPut};
+ghost use Rattle.boxes.specs.State.{isRefusal, lengthRefusal, written, startRefusal, started, stateRecordRefusal, stateRecordPut};
 ghost use Rattle.boxes.specs.Controller.{controllerBytes, fieldsAt, noController, controllerAt};
 ghost use Rattle.boxes.specs.Controller.{lastAt, downedBytes, deliveredTo, ControllerStep, controllerStep};
 
@@ -36,7 +36,7 @@ fn fields_at(s: &[u8]) -> Controller
 }
 
 // No controller: a j with no i, which every entry refuses as not well formed.
-fn no_controller() -> Controller
+pub(crate) fn no_controller() -> Controller
     ensures { λ r. ⌜ r ≡ noController ⌝ }
 {
     Controller {
@@ -48,7 +48,7 @@ fn no_controller() -> Controller
     }
 }
 
-fn controller_at(s: &[u8]) -> Controller
+pub(crate) fn controller_at(s: &[u8]) -> Controller
     ensures { λ r. ⌜ r ≡ controllerAt (now (s .entry)) ⌝ }
 {
     if s.len() != 17 {
@@ -89,7 +89,7 @@ fn controller_bytes(c: Controller) -> [u8; 17]
     ]
 }
 
-fn put_controller(state: &mut [u8], c: Controller)
+pub(crate) fn put_controller(state: &mut [u8], c: Controller)
     requires { ⌜ length (now state) ≡ 17 ⌝ }
     ensures { λ _. ⌜ now (state .exit) ≡ controllerBytes c ⌝ }
 {
@@ -134,7 +134,7 @@ pub extern "C" fn nooseless_controller_downed(state: &mut [u8], record: &[u8]) -
 // The number record to keep before a packet that bears a new number leaves.
 #[no_mangle]
 pub extern "C" fn nooseless_controller_record(state: &[u8], out: &mut [u8]) -> u8
-    ensures { λ r. ⌜ (r ≡ recordRefusal (controllerOk (controllerAt (now (state .entry)))) (now (out .entry))) × (now (out .exit) ≡ recordPut (controllerOk (controllerAt (now (state .entry)))) (LastUsed.Controller (controllerAt (now (state .entry)) .used)) (now (out .entry))) ⌝ }
+    ensures { λ r. ⌜ (r ≡ stateRecordRefusal (controllerOk (controllerAt (now (state .entry)))) (now (out .entry))) × (now (out .exit) ≡ stateRecordPut (controllerOk (controllerAt (now (state .entry)))) (LastUsed.Controller (controllerAt (now (state .entry)) .used)) (now (out .entry))) ⌝ }
 {
     let c = controller_at(state);
     let used = c.used;
@@ -155,7 +155,7 @@ fn keep(state: &mut [u8], report: Report, after: Controller)
     write_controller(state, after);
 }
 
-fn hand_over(report: Report, message: [u8; 16], out: &mut [u8; 16])
+pub(crate) fn hand_over(report: Report, message: [u8; 16], out: &mut [u8; 16])
     ensures { λ _. ⌜ now (out .exit) ≡ deliveredTo report message (now (out .entry)) ⌝ }
 {
     match report {

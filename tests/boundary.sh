@@ -10,13 +10,16 @@ fi
 . tests/stages.inc
 program=target/boundary
 . second/names.sh
-sources=tests/boundary/boundary.c
-for name in $core; do
+sources=
+for name in boundary shared wire ends every given benches lists; do
+    sources="$sources tests/boundary/$name.c"
+done
+for name in $core generate spoil; do
     sources="$sources second/$name.c"
 done
 stage library ./build-lib target/lib
 stage build "${CC:-cc}" -std=c11 -O2 -Wall -Wextra -Werror -Itarget/lib -o "$program" $sources target/lib/libnooseless.a
-stage comparison "$program" "${1:-4000000}" "${2:-1}"
+stage comparison "$program" "${1:-5000000}" "${2:-1}"
 stage "build of the stack's measure" "${CC:-cc}" -std=c11 -O2 -Wall -Wextra -Werror -Itarget/lib -Wl,-z,now -o target/stack tests/boundary/stack.c target/lib/libnooseless.a
 stage stack target/stack 200000 1
 told

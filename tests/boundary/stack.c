@@ -1,7 +1,8 @@
 /*
- * The stack of each entry of an end run alone, on a painted stack, while a console and a controller talk over a link that loses, repeats and
- * damages: stack STEPS SEED. Prints the most bytes that each entry used, its arguments and return address included; ends with 1 if that is
- * more than 512, with 3 if an order was never delivered, answered OK and answered lost.
+ * The stack of the entries that step, on a painted stack, while a console and a controller talk over a link that loses, repeats and damages,
+ * each alone and both on a bench, and while lists are played: stack STEPS SEED. Prints the most bytes that each entry used, its arguments and
+ * return address included; ends with 1 if that is more than the entry may use, with 3 if an order was never delivered, answered OK and
+ * answered lost, by ends alone or on the bench.
  */
 #include <stdio.h>
 #include <stdlib.h>
@@ -10,19 +11,22 @@
 #include "../../examples/chance.h"
 #include "nooseless.h"
 
-#define DEPTH 4096u
+#define DEPTH 8192u
 #define PAINT 0xA5
 
 static uint8_t painted[DEPTH] __attribute__((aligned(16)));
 
 /* Runs f with the painted bytes for its stack, and counts those that it changed. */
 static size_t used_by(void (*f)(void)) {
+    uint8_t clean[64];
+    memset(clean, PAINT, sizeof clean);
     memset(painted, PAINT, sizeof painted);
     __asm__ volatile("movq %%rsp, %%rbx\n\tmovq %0, %%rsp\n\tcall *%1\n\tmovq %%rbx, %%rsp"
                      :
                      : "r"(painted + sizeof painted), "r"(f)
                      : "rbx", "rax", "rcx", "rdx", "rsi", "rdi", "r8", "r9", "r10", "r11", "memory", "cc");
     size_t i = 0;
+    while (i < sizeof painted && memcmp(painted + i, clean, sizeof clean) == 0) i += sizeof clean;
     while (i < sizeof painted && painted[i] == PAINT) i++;
     return sizeof painted - i;
 }
@@ -30,7 +34,10 @@ static size_t used_by(void (*f)(void)) {
 static uint8_t console[NOOSELESS_CONSOLE_STATE], controller[NOOSELESS_CONTROLLER_STATE];
 static uint8_t record[NOOSELESS_RECORD], message[NOOSELESS_MESSAGE], delivered[NOOSELESS_MESSAGE];
 static uint8_t in[NOOSELESS_PACKET], out[NOOSELESS_PACKET];
-static volatile uint8_t letter, told; /* the compiler doesn't see what the call below reads and writes */
+static uint8_t bench[NOOSELESS_BENCH_STATE], forth[NOOSELESS_TABLE], home[NOOSELESS_TABLE];
+static uint8_t list[200 * NOOSELESS_LIST_RECORD], lines[200 * NOOSELESS_LINE];
+static volatile uint8_t letter, told; /* the compiler doesn't see what the calls below read and write */
+static volatile size_t place, copies, written;
 
 static void step_console(void) {
     told = nooseless_console_step(console, sizeof console, letter, message, in, sizeof in, out, sizeof out);
@@ -44,59 +51,107 @@ static void down_console(void) { told = nooseless_console_downed(console, sizeof
 static void down_controller(void) { told = nooseless_controller_downed(controller, sizeof controller, record, sizeof record); }
 static void start_console(void) { told = nooseless_console_fresh(console, sizeof console, 0); }
 static void start_controller(void) { told = nooseless_controller_fresh(controller, sizeof controller, 0); }
+static void start_bench(void) { told = nooseless_bench_fresh(bench, sizeof bench, forth, sizeof forth, home, sizeof home, 0, 0); }
+static void step_bench(void) {
+    told = nooseless_bench_step(bench, sizeof bench, forth, sizeof forth, home, sizeof home, letter, place, copies, message, delivered);
+}
+static void show_bench(void) {
+    size_t offset;
+    told = nooseless_bench_show(bench, sizeof bench, forth, sizeof forth, home, sizeof home, NOOSELESS_CONSOLE, place, &offset);
+}
+static void play(void) { written = nooseless_run(list, sizeof list, lines, sizeof lines); }
 static void nothing(void) {}
 
 static const struct {
     const char *name;
     void (*run)(void);
-} entries[] = {{"console_fresh", start_console},   {"controller_fresh", start_controller}, {"console_step", step_console},
-               {"controller_step", step_controller}, {"console_record", record_console},     {"controller_record", record_controller},
-               {"console_downed", down_console},   {"controller_downed", down_controller}};
-enum { CONSOLE_STEP = 2, CONTROLLER_STEP = 3, RECORD = 4, DOWNED = 6 };
+    size_t allowed;
+} entries[] = {{"console_fresh", start_console, 512},   {"controller_fresh", start_controller, 512},   {"console_step", step_console, 512},
+               {"controller_step", step_controller, 512}, {"console_record", record_console, 512},       {"controller_record", record_controller, 512},
+               {"console_downed", down_console, 512},   {"controller_downed", down_controller, 512},   {"bench_fresh", start_bench, 512},
+               {"bench_step", step_bench, 2048},        {"bench_show", show_bench, 512},               {"run", play, 6144}};
+enum { CONSOLE_STEP = 2, CONTROLLER_STEP = 3, RECORD = 4, DOWNED = 6, BENCH_FRESH = 8, BENCH_STEP, BENCH_SHOW, RUN };
 
+static struct chance chance;
 static size_t most[sizeof entries / sizeof *entries];
 static size_t bare;
-static unsigned long seen[19];
+static unsigned long seen[2][19]; /* by ends alone, on the bench */
 
 static void run(int which) {
     size_t n = used_by(entries[which].run) - bare;
     if (n > most[which]) most[which] = n;
 }
 
+static void stepped(int which) {
+    run(which);
+    if (!NOOSELESS_IS_REFUSAL(told)) seen[which == BENCH_STEP][NOOSELESS_REPORT(told)]++;
+}
+
+/* An end's step, now and then after power loss. */
+static void alone(void) {
+    static uint8_t air[2][16][NOOSELESS_PACKET];
+    int end = (int)below(&chance, 2);
+    letter = (uint8_t)(end ? "OKRRRRRR" : "PQDSSSSS")[below(&chance, 8)];
+    memcpy(in, air[end][below(&chance, 3) ? 0 : below(&chance, 16)], sizeof in);
+    if (below(&chance, 50) == 0) in[below(&chance, sizeof in)] ^= 1;
+    stepped(end ? CONTROLLER_STEP : CONSOLE_STEP);
+    if (told & NOOSELESS_SENT) {
+        memmove(air[!end][1], air[!end][0], 15 * sizeof in);
+        memcpy(air[!end][0], out, sizeof out);
+    }
+    if (below(&chance, 40) != 0) return;
+    end = (int)below(&chance, 2);
+    run(RECORD + end);
+    run(DOWNED + end);
+    letter = end ? 'Y' : 'V';
+    run(end ? CONTROLLER_STEP : CONSOLE_STEP);
+}
+
+/* A step of the bench, which comes back at once when it goes down. */
+static void together(void) {
+    letter = (uint8_t)"PQDSSSSOKRRRRLMPQDSSSSOKRRRRLMCX"[below(&chance, 32)];
+    place = below(&chance, 3) ? 0 : below(&chance, 66);
+    copies = below(&chance, 3);
+    stepped(BENCH_STEP);
+    run(BENCH_SHOW);
+    if (letter != 'C' && letter != 'X') return;
+    letter = letter == 'C' ? 'V' : 'Y';
+    run(BENCH_STEP);
+}
+
+static void played(void) {
+    for (uint8_t *r = list; r < list + sizeof list; r += NOOSELESS_LIST_RECORD) {
+        memcpy(r, "P000                \n", NOOSELESS_LIST_RECORD);
+        r[0] = (uint8_t)"PQDSSSSCVOKRRRRXYLM?"[below(&chance, 20)];
+        if (strchr("QDSOKR", r[0])) r[3] = (uint8_t)('0' + below(&chance, 4));
+    }
+    run(RUN);
+}
+
+static int all_seen(const unsigned long *told_of) {
+    printf("; %lu delivered, %lu OK, %lu lost", told_of[NOOSELESS_DELIVERED], told_of[NOOSELESS_ANSWER_OK], told_of[NOOSELESS_ANSWER_LOST]);
+    return told_of[NOOSELESS_DELIVERED] && told_of[NOOSELESS_ANSWER_OK] && told_of[NOOSELESS_ANSWER_LOST];
+}
+
 int main(int argc, char **argv) {
     if (argc != 3) return 2;
-    struct chance chance = {strtoull(argv[2], NULL, 10)};
-    uint8_t air[2][16][NOOSELESS_PACKET];
-    memset(air, 0, sizeof air);
+    chance.state = strtoull(argv[2], NULL, 10);
     memset(message, 'A', sizeof message);
     bare = used_by(nothing) - 8;
     run(0);
     run(1);
+    run(BENCH_FRESH);
     for (unsigned long n = strtoul(argv[1], NULL, 10); n > 0; n--) {
-        int end = (int)below(&chance, 2);
-        letter = (uint8_t)(end ? "OKRRRRRR" : "PQDSSSSS")[below(&chance, 8)];
-        memcpy(in, air[end][below(&chance, 3) ? 0 : below(&chance, 16)], sizeof in);
-        if (below(&chance, 50) == 0) in[below(&chance, sizeof in)] ^= 1;
-        run(end ? CONTROLLER_STEP : CONSOLE_STEP);
-        if (!NOOSELESS_IS_REFUSAL(told)) seen[NOOSELESS_REPORT(told)]++;
-        if (told & NOOSELESS_SENT) {
-            memmove(air[!end][1], air[!end][0], 15 * sizeof in);
-            memcpy(air[!end][0], out, sizeof out);
-        }
-        if (below(&chance, 40) == 0) {
-            end = (int)below(&chance, 2);
-            run(RECORD + end);
-            run(DOWNED + end);
-            letter = end ? 'Y' : 'V';
-            run(end ? CONTROLLER_STEP : CONSOLE_STEP);
-        }
+        alone();
+        together();
+        if (n % 1000 == 0) played();
     }
     int deep = 0;
     for (size_t i = 0; i < sizeof entries / sizeof *entries; i++) {
         printf("%s%s %zu", i ? ", " : "stack in bytes: ", entries[i].name, most[i]);
-        if (most[i] > 512) deep = 1;
+        if (most[i] > entries[i].allowed) deep = 1;
     }
-    printf("; %lu delivered, %lu OK, %lu lost\n", seen[NOOSELESS_DELIVERED], seen[NOOSELESS_ANSWER_OK], seen[NOOSELESS_ANSWER_LOST]);
-    if (deep) return 1;
-    return seen[NOOSELESS_DELIVERED] && seen[NOOSELESS_ANSWER_OK] && seen[NOOSELESS_ANSWER_LOST] ? 0 : 3;
+    int ends = all_seen(seen[0]), benches = all_seen(seen[1]);
+    printf("\n");
+    return deep ? 1 : ends && benches ? 0 : 3;
 }

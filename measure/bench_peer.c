@@ -1,0 +1,177 @@
+/*
+ * The bench's step as C that makes the same checks of the same bytes, both ends and both tables at each step: the peer of the measure.
+ */
+#include <string.h>
+
+#include "packets.h"
+#include "peer.h"
+
+enum { PLACES = 64, CONTROLLER = NOOSELESS_CONSOLE_STATE, SENT = 47, RETURNED = 48 };
+
+/* A table, and where its count is. */
+struct channel {
+    uint8_t *table, *count;
+};
+
+/* Whether these bytes are a packet of the direction. */
+static inline int packet_well(const uint8_t *p, int out) {
+    static const uint8_t head[5] = {'H', 'S', 'L', 0, 1}, none[NOOSELESS_MESSAGE];
+    uint8_t kind = p[5];
+    if (memcmp(p, head, sizeof head) != 0 || p[6] != 0 || p[7] != 0) return 0;
+    if (kind < NOOSELESS_NEEDI || kind > NOOSELESS_DONE || to_controller(kind) != out) return 0;
+    if (number(p + 8) == 0 || (number(p + 12) != 0) != (kind == NOOSELESS_OFFER)) return 0;
+    return kind == NOOSELESS_DATA ? all_cells(p + 16) : memcmp(p + 16, none, sizeof none) == 0;
+}
+
+static inline int well(const uint8_t *table, size_t n, size_t count, int out) {
+    if (n != NOOSELESS_TABLE || count > PLACES) return 0;
+    const uint8_t *p = table, *end = table + NOOSELESS_TABLE;
+    for (; p != table + count * NOOSELESS_PACKET; p += NOOSELESS_PACKET)
+        if (!packet_well(p, out)) return 0;
+    uint64_t any = 0;
+    for (; p != end; p += 8) {
+        uint64_t word;
+        memcpy(&word, p, 8);
+        any |= word;
+    }
+    return any == 0;
+}
+
+static inline int full(struct channel c, size_t copies) { return copies > (size_t)(PLACES - *c.count); }
+
+static void send(struct channel c, size_t copies, uint8_t kind, uint32_t first, uint32_t second, const uint8_t *message) {
+    for (; copies > 0; copies--) {
+        uint8_t *p = c.table + (*c.count)++ * NOOSELESS_PACKET;
+        write_packet(p, kind, first, second);
+        if (message) memcpy(p + 16, message, NOOSELESS_MESSAGE);
+    }
+}
+
+static void take_out(struct channel c, size_t place) {
+    uint8_t *p = c.table + place * NOOSELESS_PACKET;
+    size_t later = --*c.count - place;
+    memmove(p, p + NOOSELESS_PACKET, later * NOOSELESS_PACKET);
+    memset(p + later * NOOSELESS_PACKET, 0, NOOSELESS_PACKET);
+}
+
+static uint8_t sends(struct channel c, size_t copies, int up, uint8_t kind, uint32_t first, uint32_t second, const uint8_t *message) {
+    if (!up) return NOOSELESS_IS_DOWN;
+    if (first == 0) return NOOSELESS_OTHER_MODE;
+    if (full(c, copies)) return NOOSELESS_NO_ROOM;
+    send(c, copies, kind, first, second, message);
+    return NOOSELESS_NOTHING;
+}
+
+static uint8_t puts_order(uint8_t *s, const uint8_t *message) {
+    uint32_t used = number(s);
+    if (!s[13]) return NOOSELESS_IS_DOWN;
+    if (s[12]) return NOOSELESS_OTHER_MODE;
+    if (used == UINT32_MAX) return NOOSELESS_SPENT;
+    put_number(s, used + 1);
+    put_number(s + 4, used + 1);
+    s[12] = 1;
+    memcpy(s + 14, message, NOOSELESS_MESSAGE);
+    return NOOSELESS_NOTHING;
+}
+
+static uint8_t console_takes(uint8_t *s, struct channel from, struct channel to, size_t place, size_t copies) {
+    if (!s[13]) return NOOSELESS_IS_DOWN;
+    if (place >= *from.count) return NOOSELESS_NO_PLACE;
+    const uint8_t *p = from.table + place * NOOSELESS_PACKET;
+    uint8_t kind = p[5], report = NOOSELESS_NOTHING;
+    uint32_t last = number(s + 8), first = number(p + 8), i = kind == NOOSELESS_OFFER ? number(p + 12) : first;
+    int taken = kind == NOOSELESS_OFFER && first == number(s + 4);
+    int reply = kind == NOOSELESS_OK || (kind == NOOSELESS_OFFER && !taken && i != last);
+    if (reply && full(to, copies)) return NOOSELESS_NO_ROOM;
+    if (taken) {
+        memset(s + 4, 0, 4);
+        put_number(s + 8, i);
+    } else if (kind != NOOSELESS_OFFER && i == last) {
+        rest(s);
+        report = kind == NOOSELESS_OK ? NOOSELESS_ANSWER_OK : NOOSELESS_ANSWER_LOST;
+    }
+    take_out(from, place);
+    if (reply) send(to, copies, NOOSELESS_DONE, i, 0, 0);
+    return report;
+}
+
+static uint8_t controller_takes(uint8_t *s, struct channel from, struct channel to, size_t place, size_t copies, uint8_t *delivered) {
+    if (!s[16]) return NOOSELESS_IS_DOWN;
+    if (place >= *from.count) return NOOSELESS_NO_PLACE;
+    const uint8_t *p = from.table + place * NOOSELESS_PACKET;
+    uint8_t kind = p[5], report = NOOSELESS_NOTHING;
+    uint32_t used = number(s), i = number(s + 8), last = number(s + 12), n = number(p + 8);
+    if (kind != NOOSELESS_NEEDI && n > used) return NOOSELESS_NEVER_GIVEN;
+    int reply = kind == NOOSELESS_DATA && n != last;
+    if (reply && full(to, copies)) return NOOSELESS_NO_ROOM;
+    uint8_t answer = NOOSELESS_LOST;
+    if (kind == NOOSELESS_NEEDI) {
+        if (i == 0 && last == 0 && used != UINT32_MAX) {
+            put_number(s, used + 1);
+            put_number(s + 4, n);
+            put_number(s + 8, used + 1);
+        }
+    } else if (n == i) {
+        memset(s + 4, 0, 8);
+        if (kind == NOOSELESS_DATA) {
+            put_number(s + 12, n);
+            memcpy(delivered, p + 16, NOOSELESS_MESSAGE);
+            answer = NOOSELESS_OK;
+            report = NOOSELESS_DELIVERED;
+        }
+    } else if (n == last && kind == NOOSELESS_DONE) {
+        memset(s + 12, 0, 4);
+    }
+    take_out(from, place);
+    if (reply) send(to, copies, answer, n, 0, 0);
+    return report;
+}
+
+static uint8_t loses(struct channel c, size_t place) {
+    if (place >= *c.count) return NOOSELESS_NO_PLACE;
+    take_out(c, place);
+    return NOOSELESS_NOTHING;
+}
+
+static uint8_t comes_back(uint8_t *s, uint8_t *up) {
+    if (*up) return NOOSELESS_IS_UP;
+    *up = 1;
+    memset(s + 4, 0, 8);
+    return NOOSELESS_NOTHING;
+}
+
+uint8_t peer_bench_step(uint8_t *s, size_t n, uint8_t *out, size_t out_len, uint8_t *back, size_t back_len, uint8_t letter, size_t place,
+                        size_t copies, const uint8_t *message, uint8_t *delivered) {
+    enum { LETTER = 1, COPIES = 2 };
+    static const uint8_t uses[256] = {['P'] = LETTER, ['C'] = LETTER, ['V'] = LETTER, ['X'] = LETTER, ['Y'] = LETTER, ['L'] = LETTER,
+        ['M'] = LETTER, ['Q'] = COPIES, ['D'] = COPIES, ['S'] = COPIES, ['O'] = COPIES, ['K'] = COPIES, ['R'] = COPIES};
+    uint8_t *d = s + CONTROLLER;
+    if (uses[letter] == 0) return NOOSELESS_NO_ACTION;
+    if (n != NOOSELESS_BENCH_STATE || !console_well(s) || !controller_well(d)) return NOOSELESS_ILL_FORMED;
+    if (!well(out, out_len, s[SENT], 1) || !well(back, back_len, s[RETURNED], 0)) return NOOSELESS_ILL_FORMED;
+    if (letter == 'P' && !all_cells(message)) return NOOSELESS_NO_CELL;
+    if (uses[letter] == COPIES && copies > 3) return NOOSELESS_MANY_COPIES;
+    struct channel forth = {out, s + SENT}, home = {back, s + RETURNED};
+    uint8_t told;
+    switch (letter) {
+    case 'P': return puts_order(s, message);
+    case 'Q': return sends(forth, copies, s[13], NOOSELESS_NEEDI, number(s + 4), 0, 0);
+    case 'D': return sends(forth, copies, s[13], NOOSELESS_DATA, number(s + 8), 0, s + 14);
+    case 'S': return console_takes(s, home, forth, place, copies);
+    case 'C': s[13] = 0; return NOOSELESS_NOTHING;
+    case 'V':
+        told = comes_back(s, s + 13);
+        if (!told) rest(s);
+        return told;
+    case 'O': return sends(home, copies, d[16], NOOSELESS_OFFER, number(d + 4), number(d + 8), 0);
+    case 'K': return sends(home, copies, d[16], NOOSELESS_OK, number(d + 12), 0, 0);
+    case 'R': return controller_takes(d, forth, home, place, copies, delivered);
+    case 'X': d[16] = 0; return NOOSELESS_NOTHING;
+    case 'Y':
+        told = comes_back(d, d + 16);
+        if (!told) memset(d + 12, 0, 4);
+        return told;
+    case 'L': return loses(forth, place);
+    default: return loses(home, place);
+    }
+}

@@ -1,0 +1,222 @@
+/* Each end run alone: started, stepped, its number record. */
+#include "alone.h"
+
+#include <string.h>
+
+struct box box;
+struct asked asked;
+static struct box ours, theirs;
+
+static void some_console(uint8_t *s) {
+    Console c = fresh_console(some_number());
+    uint32_t mode = roll(3);
+    scribble(s, ROOM);
+    if (roll(24) == 0) c.last_used = UINT32_MAX;
+    c.down = roll(4) == 0;
+    c.held = mode != 0;
+    if (mode == 1) c.j = roll(2) ? c.last_used : some_number();
+    if (mode == 2) c.last = some_number();
+    if (c.held) some_message(c.message);
+    console_to(&c, s);
+    if (roll(8) == 0) damage(s, NOOSELESS_CONSOLE_STATE);
+    if (roll(40) == 0) scribble(s, ROOM);
+}
+
+static void some_controller(uint8_t *s) {
+    Controller c = fresh_controller(some_number());
+    uint32_t mode = roll(3);
+    scribble(s, ROOM);
+    c.down = roll(4) == 0;
+    if (mode == 1) {
+        c.j = some_number();
+        c.i = roll(2) ? c.last_used : some_number();
+    }
+    if (mode == 2) c.last = roll(2) ? c.last_used : some_number();
+    controller_to(&c, s);
+    if (roll(8) == 0) damage(s, NOOSELESS_CONTROLLER_STATE);
+    if (roll(40) == 0) scribble(s, ROOM);
+}
+
+/* ---- which refusals apply, not only the first ---- */
+
+static unsigned packet_rules(Direction own) {
+    uint8_t mended[PACKET_BYTES];
+    if (asked.in_len != PACKET_BYTES) return rule(12, 1);
+    memcpy(mended, box.in, sizeof mended);
+    write_mark_and_version(mended, "HSL");
+    PacketRead r = read_packet(mended, sizeof mended);
+    return rule(13, memcmp(box.in, "HSL", 3) != 0) | rule(14, box.in[3] != 0 || box.in[4] != 1) |
+           rule(15, r.refusal != 0 || direction_of(r.packet.kind) != own);
+}
+
+static unsigned lent_rules(const char *senders) {
+    return rule(12, asked.letter && strchr(senders, asked.letter) && asked.out_len != PACKET_BYTES);
+}
+
+/* 4, 5, 6 and 8, of ill-formed bytes too: a flag that is neither 0 nor 1 says nothing, the numbers and the other flag still do. */
+static unsigned console_end_rules(void) {
+    const uint8_t *s = box.state;
+    if (asked.state_len != NOOSELESS_CONSOLE_STATE) return 0;
+    switch (asked.letter) {
+    case 'P': return rule(4, s[13] == 0) | rule(6, s[12] == 1) | rule(8, get_number(s) == UINT32_MAX);
+    case 'Q': return rule(4, s[13] == 0) | rule(6, get_number(s + 4) == 0);
+    case 'D': return rule(4, s[13] == 0) | rule(6, get_number(s + 8) == 0);
+    case 'S': return rule(4, s[13] == 0);
+    case 'V': return rule(5, s[13] == 1);
+    default: return 0;
+    }
+}
+
+/* 4, 5, 6 and 7, likewise. */
+static unsigned controller_end_rules(void) {
+    const uint8_t *s = box.state;
+    if (asked.state_len != NOOSELESS_CONTROLLER_STATE) return 0;
+    PacketRead r = read_packet(box.in, asked.in_len);
+    int bears_i = r.refusal == 0 && (r.packet.kind == DATA || r.packet.kind == DONE);
+    switch (asked.letter) {
+    case 'O': return rule(4, s[16] == 0) | rule(6, get_number(s + 8) == 0);
+    case 'K': return rule(4, s[16] == 0) | rule(6, get_number(s + 12) == 0);
+    case 'R': return rule(4, s[16] == 0) | rule(7, bears_i && r.packet.first > get_number(s));
+    case 'Y': return rule(5, s[16] == 1);
+    default: return 0;
+    }
+}
+
+static unsigned console_rules(const Console *c) {
+    unsigned rules = rule(2, !console_well_formed(c));
+    const Action *a = find_action(asked.letter);
+    if (!a || a->actor != CONSOLE) return rules | rule(1, 1);
+    if (asked.letter == 'S') rules |= packet_rules(TO_CONSOLE);
+    return rules | lent_rules("QDS") | rule(11, asked.letter == 'P' && !all_cells(box.message)) | console_end_rules();
+}
+
+static unsigned controller_rules(const Controller *c) {
+    unsigned rules = rule(2, !controller_well_formed(c));
+    const Action *a = find_action(asked.letter);
+    if (!a || a->actor != CONTROLLER) return rules | rule(1, 1);
+    if (asked.letter == 'R') rules |= packet_rules(TO_CONTROLLER);
+    return rules | lent_rules("OKR") | controller_end_rules();
+}
+
+/* ---- the entries ---- */
+
+/* What the second program says must be the first that applies; then what the entry says is compared. */
+static void compare(const char *name, const Outcome *o, unsigned rules, uint8_t got) {
+    entry = "the first rule of an end's step";
+    check(o->refusal == first_of(rules));
+    entry = name;
+    check(got == told_by(&ends, o));
+    check(!memcmp(&ours, &theirs, sizeof ours));
+    count(&ends, o->refusal, rules);
+}
+
+void console_step(void) {
+    ours = theirs = box;
+    Console c = console_from(theirs.state, asked.state_len);
+    unsigned rules = console_rules(&c);
+    Outcome o = console_alone(&c, asked.letter, theirs.message, theirs.in, asked.in_len, theirs.out, asked.out_len);
+    if (o.report != REFUSED) console_to(&c, theirs.state);
+    uint8_t got = nooseless_console_step(ours.state, asked.state_len, asked.letter, ours.message, ours.in, asked.in_len, ours.out, asked.out_len);
+    compare("nooseless_console_step", &o, rules, got);
+}
+
+void controller_step(void) {
+    ours = theirs = box;
+    Controller c = controller_from(theirs.state, asked.state_len);
+    unsigned rules = controller_rules(&c);
+    Outcome o = controller_alone(&c, asked.letter, theirs.in, asked.in_len, theirs.out, asked.out_len);
+    if (o.report != REFUSED) controller_to(&c, theirs.state);
+    if (o.report == DELIVERED) memcpy(theirs.delivered, o.message, CELLS);
+    uint8_t got = nooseless_controller_step(ours.state, asked.state_len, asked.letter, ours.in, asked.in_len, ours.out, asked.out_len,
+                                            ours.delivered);
+    compare("nooseless_controller_step", &o, rules, got);
+}
+
+/* Fresh, or after power loss from a record: of either end. */
+void started(int controller, int downed) {
+    size_t n = asked.state_len, m = asked.in_len;
+    uint32_t last = some_number();
+    int refusal = 0;
+    entry = downed ? "nooseless_.._downed" : "nooseless_.._fresh";
+    ours = theirs = box;
+    if (downed) {
+        NumberRecordRead r = read_number_record(theirs.in, m);
+        refusal = r.refusal == 0 && r.record.end != (controller ? CONTROLLER_RECORD : CONSOLE_RECORD) ? 15 : r.refusal;
+        last = refusal == 0 ? r.record.last_used : 0;
+    }
+    if (n != (controller ? NOOSELESS_CONTROLLER_STATE : NOOSELESS_CONSOLE_STATE)) refusal = 2;
+    if (refusal == 0 && controller) {
+        Controller c = downed ? controller_after_power_loss(last) : fresh_controller(last);
+        controller_to(&c, theirs.state);
+    } else if (refusal == 0) {
+        Console c = downed ? console_after_power_loss(last) : fresh_console(last);
+        console_to(&c, theirs.state);
+    }
+    uint8_t got = controller ? (downed ? nooseless_controller_downed(ours.state, n, ours.in, m) : nooseless_controller_fresh(ours.state, n, last))
+                             : (downed ? nooseless_console_downed(ours.state, n, ours.in, m) : nooseless_console_fresh(ours.state, n, last));
+    check(got == refusal);
+    check(!memcmp(&ours, &theirs, sizeof ours));
+    count(&ends, refusal, 0);
+}
+
+/* The number record of a state, of either end. */
+void record_of(int controller) {
+    size_t n = asked.state_len, m = asked.out_len;
+    entry = "nooseless_.._record";
+    ours = theirs = box;
+    Controller b = controller_from(theirs.state, n);
+    Console c = console_from(theirs.state, n);
+    int refusal = 2;
+    if (controller ? controller_well_formed(&b) : console_well_formed(&c)) {
+        NumberRecord r = {controller ? CONTROLLER_RECORD : CONSOLE_RECORD, controller ? b.last_used : c.last_used};
+        refusal = write_number_record(&r, theirs.out, m);
+    }
+    check((controller ? nooseless_controller_record(ours.state, n, ours.out, m) : nooseless_console_record(ours.state, n, ours.out, m)) == refusal);
+    check(!memcmp(&ours, &theirs, sizeof ours));
+    count(&ends, refusal, 0);
+}
+
+/* A state of that end, of every sort, and the rest by chance. */
+static void some_box(int controller) {
+    scribble(box.out, ROOM);
+    scribble(box.delivered, ROOM);
+    some_message(box.message);
+    if (controller) some_controller(box.state);
+    else some_console(box.state);
+    asked.state_len = some_length(controller ? NOOSELESS_CONTROLLER_STATE : NOOSELESS_CONSOLE_STATE);
+}
+
+static void some_step(int controller) {
+    some_box(controller);
+    some_packet(box.in, box.state);
+    asked.in_len = some_length(PACKET_BYTES);
+    asked.out_len = some_length(PACKET_BYTES);
+    asked.letter = some_letter(controller ? "OKRRRRXY" : "PQDSSSCV");
+    if (controller) controller_step();
+    else console_step();
+}
+
+/* Started, or asked for its record. */
+static void some_other(void) {
+    int controller = (int)roll(2), lot = (int)roll(3);
+    some_box(controller);
+    some_record(box.in);
+    asked.in_len = some_length(NUMBER_RECORD_BYTES);
+    asked.out_len = some_length(NUMBER_RECORD_BYTES);
+    if (lot == 2) record_of(controller);
+    else started(controller, lot);
+}
+
+void one_of_ends(void) {
+    uint32_t lot = roll(12);
+    if (lot < 3) some_other();
+    else some_step(lot >= 8);
+}
+
+/* 3, 9 and 10 speak of places and copies, which an end run alone has none of. */
+int enough_ends(void) {
+    static const Pair known[] = {{1, 2}, {2, 4}, {2, 5}, {2, 6}, {2, 7}, {2, 8}, {2, 11}, {2, 12}, {2, 13}, {2, 14}, {2, 15}, {4, 6},
+        {4, 7}, {4, 8}, {4, 11}, {4, 12}, {4, 13}, {4, 14}, {4, 15}, {6, 8}, {6, 11}, {6, 12}, {7, 12}, {8, 11}, {12, 13}, {12, 14},
+        {12, 15}, {13, 14}, {13, 15}, {14, 15}};
+    return enough(&ends, "packets, records and ends alone", 0xFFFEu & ~(1u << 3 | 1u << 9 | 1u << 10), known, sizeof known / sizeof *known);
+}

@@ -1,7 +1,8 @@
 #!/bin/sh
 # docs/PROMISES.md beside the sources: every public entry has one row and every row an entry, each entry has one `ensures` and no
-# `requires`, each row a determinacy lemma that sees every buffer lent to be written, and two wrong programs. Every definition, lemma and must-fail edit that PROMISES, READING
-# or TRACE names exists, and the line counts of READING are those of the files.
+# `requires`, each row a determinacy lemma that sees every buffer lent to be written, and two wrong programs. Every definition, lemma and
+# must-fail edit that a page names exists, what DECISIONS says a decision is pinned by is defined in the crate beside it, and the line
+# counts of READING are those of the files.
 set -u
 dir=target/promises
 mkdir -p "$dir" || exit 1
@@ -83,15 +84,34 @@ unpromised() {
     done < "$dir/entries"
 }
 
-# Rows that lack a lemma, a second wrong program or a demand. Cells: entry, promise, definition, determined by, rules out, demand.
+# Rows that lack a lemma, a second wrong program or a demand. Cells: entry, promise, definition, determined by, rules out, demand. A wrong
+# program is named by the lemma or the edit that shuts it out; of `bytes_fit` none can be.
 lacking() {
     grep -E '^\| `[a-z_]+::' docs/PROMISES.md | awk -F ' [|] ' '
         { entry = $1; sub(/^[|] /, "", entry) }
         NF != 6 { print entry ": " NF " cells"; next }
         $4 !~ /^`[a-z]+\/[A-Z][A-Za-z]*\.[a-z-]+-determined`$/ { print entry ": no determinacy lemma" }
-        $5 !~ /;/ { print entry ": no second wrong program" }
+        {
+            split("", named); count = 0; text = $5
+            while (match(text, /`([a-z_]+\/(Wrong[A-Za-z]*|Echoes)\.[^` ]+|([a-z_]+\/)?[A-Za-z0-9_]+\.edit)`/)) {
+                if (!(substr(text, RSTART, RLENGTH) in named)) count++
+                named[substr(text, RSTART, RLENGTH)]; text = substr(text, RSTART + RLENGTH)
+            }
+        }
+        count < 2 && entry != "`channels::bytes_fit`" { print entry ": " count " wrong programs with a lemma or an edit" }
+        $5 ~ /by the equation/ { print entry ": a wrong program without a lemma or an edit" }
         $6 !~ /^[123](, [123])* [|]$/ { print entry ": no demand" }
     '
+}
+
+# defines WORD FILE...: one of the files defines it.
+defines() {
+    word=$1
+    shift
+    awk -v word="$word" '
+        { n = 1; while ($n ~ /^(unfoldable|abbrev|pub|record|data|enum|struct|«)$/) n++; if ($n == word) hit = 1 }
+        END { exit !hit }
+    ' "$@"
 }
 
 # Names in backquotes: crate/File.name is defined in that crate's specs/ or proofs/; [crate/]name.edit is a must-fail edit, of the row's
@@ -99,16 +119,14 @@ lacking() {
 names() {
     grep -noE '`[a-z_]+/[A-Z][A-Za-z0-9]*\.[^` ]+`' "$1" | while IFS=: read -r line name; do
         name=$(printf '%s\n' "$name" | tr -d '`')
+        [ -f "$name" ] && continue # docs/PAGE.md
         crate=${name%%/*}
         rest=${name#*/}
         file=${rest%%.*}
         word=${rest#*.}
         found=0
         for place in crates/"$crate"/specs/"$file".antt crates/"$crate"/proofs/"$file".antt; do
-            [ -f "$place" ] && awk -v word="$word" '
-                { n = 1; while ($n ~ /^(unfoldable|abbrev|pub|record|data|«)$/) n++; if ($n == word) hit = 1 }
-                END { exit !hit }
-            ' "$place" && found=1
+            [ -f "$place" ] && defines "$word" "$place" && found=1
         done
         [ "$found" -eq 1 ] || echo "$1:$line: $name"
     done
@@ -121,6 +139,23 @@ names() {
     done
     grep -noE '`[a-z]+\.txt:[a-z0-9-]+`' "$1" | tr -d '`' | while IFS=: read -r line file name; do
         grep -qx "corner $name" "second/corners/$file" || echo "$1:$line: $file:$name"
+    done
+}
+
+# "Pinned by" in DECISIONS: the names in backquotes before a (crate) are defined in its specs/, proofs/ or src/.
+pinned() {
+    awk -F ' [|] ' '/^\| [0-9]+ \|/ {
+        text = $NF; waiting = 0
+        while (match(text, /`[A-Za-z][A-Za-z0-9-]*`|\([a-z]+\)/)) {
+            part = substr(text, RSTART + 1, RLENGTH - 2); closes = substr(text, RSTART, 1) == "("; text = substr(text, RSTART + RLENGTH)
+            if (!closes) { waiting++; name[waiting] = part; continue }
+            for (k = 1; k <= waiting; k++) print FNR, name[k], part
+            waiting = 0
+        }
+        for (k = 1; k <= waiting; k++) print FNR, name[k], "no-crate"
+    }' docs/DECISIONS.md | while read -r line name crate; do
+        defines "$name" crates/"$crate"/specs/*.antt crates/"$crate"/proofs/*.antt $(find crates/"$crate"/src -name '*.rt' 2> /dev/null) 2> /dev/null ||
+            echo "docs/DECISIONS.md:$line: $name ($crate)"
     done
 }
 
@@ -146,10 +181,12 @@ unpromised > "$dir/unpromised"
 check "entries without one ensures, with a requires, or with a buffer that the lemma does not see" "$dir/unpromised"
 lacking > "$dir/lacking"
 check "rows that lack something" "$dir/lacking"
-for page in PROMISES READING TRACE; do
-    names "docs/$page.md" > "$dir/names"
+for page in docs/PROMISES.md docs/READING.md docs/TRACE.md docs/DECISIONS.md docs/BOXES.md README.md; do
+    names "$page" > "$dir/names"
     check "names that don't exist" "$dir/names"
 done
+pinned > "$dir/pinned"
+check "pinned by what does not exist" "$dir/pinned"
 counts > "$dir/counts"
 check "line counts" "$dir/counts"
 echo "$passed passed, $failed failed"

@@ -113,7 +113,7 @@ fn takes_out(heard: Heard) -> Request
     of_controller(controller::Act::Take(packet), message)
 }
 
-pub fn asks(
+pub(crate) fn asks(
     l: Letter,
     place: usize,
     m: [u8; 16],

@@ -35,7 +35,7 @@ pub struct Told {
     pub after: Inside,
 }
 
-pub fn refused(n: u8, b: Inside) -> Told
+pub(crate) fn refused(n: u8, b: Inside) -> Told
     ensures { λ r. ⌜ r ≡ record { report = Report.Refused n; message = spaces; after = b } ⌝ }
 {
     Told {
@@ -248,7 +248,7 @@ fn loses(b: Inside, dir: Direction, line: Line, a: Action, out: &mut [u8], back:
 }
 
 // The step, of a letter's line of the table.
-pub fn known(b: Inside, line: Line, a: Action, out: &mut [u8], back: &mut [u8]) -> Told
+pub(crate) fn known(b: Inside, line: Line, a: Action, out: &mut [u8], back: &mut [u8]) -> Told
     requires { ⌜ Known b (now out) (now back) ⌝ }
     requires { ⌜ Lined line ⌝ }
     ensures { λ r. ⌜ within r (now (out .exit)) (now (back .exit)) ≡ insideStep b (now (out .entry)) (now (back .entry)) line a ⌝ }

@@ -23,7 +23,7 @@ fn sentence(n: u8) {
 }
 
 // Prints nothing for a record that was not refused.
-pub fn print(report: Report) {
+pub(crate) fn print(report: Report) {
     let Report::Refused(n) = report else {
         return;
     };

@@ -81,8 +81,7 @@ fn print_head(h: Head) {
 
 // Places below the count hold packets, so that none is passed over.
 fn print_packet(table: &[u8], place: usize) {
-    let packet = channels::packet_at(table, place);
-    let head = packet.head;
+    let head = channels::head_at(table, place);
     match head {
         ReadHead::Refused(_) => {}
         ReadHead::Is(h) => print_head(h),
@@ -107,7 +106,7 @@ fn print_channel(name: &[u8], table: &[u8], count: usize) {
     say(b"\n");
 }
 
-pub fn print(b: Bench, out: &[u8], back: &[u8]) {
+pub(crate) fn print(b: Bench, out: &[u8], back: &[u8]) {
     let console = b.console;
     let controller = b.controller;
     print_console(console);

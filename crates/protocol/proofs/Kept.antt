@@ -21,11 +21,11 @@ use Rattle.protocol.proofs.Turns.{judged}
 use Rattle.protocol.proofs.Steps.{step-keeps}
 
 module _ {M : Type 0} where
-  write-accepted : (past : Log M) (o : Option (Event M)) → Accepted past → Opt (Allowed (judge past)) o → Accepted (write o past)
+  pub write-accepted : (past : Log M) (o : Option (Event M)) → Accepted past → Opt (Allowed (judge past)) o → Accepted (write o past)
   write-accepted past none a h = a
   write-accepted past (some e) a h = (a, h)
 
-  judge-write : (past : Log M) (o : Option (Event M)) → judged (judge past) o ≡ judge (write o past)
+  pub judge-write : (past : Log M) (o : Option (Event M)) → judged (judge past) o ≡ judge (write o past)
   judge-write past none = refl
   judge-write past (some e) = refl
 

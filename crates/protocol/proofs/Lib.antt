@@ -1,6 +1,8 @@
 pub mod Accepts
+pub mod Aired
 pub mod Bears
 pub mod Bench
+pub mod BenchOnRadio
 pub mod ConsoleMoves
 pub mod ControllerMoves
 pub mod Demand3
@@ -12,6 +14,9 @@ pub mod Letters
 pub mod Lists
 pub mod Numbers
 pub mod Plain
+pub mod Radio
+pub mod RadioVectors
+pub mod RadioWellFormed
 pub mod Refusals
 pub mod Relabel
 pub mod Stages

@@ -14,7 +14,7 @@ use Rattle.protocol.specs.Ends.{ControllerTurn, ConsoleTurn, ToControlle
 use Rattle.protocol.specs.Ends.{ok, lost, ConsoleMode, in-needI, in-send, ControllerMode, in-accept, in-ack, Console, Controller, ConsoleAct}
 use Rattle.protocol.specs.Ends.{put, send-needI, send-data, ControllerAct, send-offer, send-ok, puts, needI-sent, data-sent, console-takes}
 use Rattle.protocol.specs.Ends.{controller-takes, console-turn, controller-turn, console-power, controller-power, end-after, absent, holding}
-use Rattle.protocol.specs.Ends.{unknown, console-rules, controller-rules, console-acts, controller-acts, controller-step}
+use Rattle.protocol.specs.Ends.{unknown, console-rules, controller-rules, console-acts, controller-acts, console-step, controller-step}
 use Rattle.protocol.specs.Bench.{Bench, Action, Asked, console, controller, no-end, Taken, from-neither, from-toController, from-toConsole, at}
 use Rattle.protocol.specs.Bench.{without, copies-of, asks, missing, taken-out, does, effect, exceed, end-rules, no-room, rules-of, step}
 use Rattle.protocol.specs.Relabel.{in-packet, in-mode, in-console, in-console-act, in-controller-act, in-console-acted, in-controller-acted, in-bench, in-action, in-report, in-outcome}
@@ -22,7 +22,7 @@ use Rattle.protocol.specs.Relabel.{in-packet, in-mode, in-console, in-co
 -- ## Lists
 
 module _ {A B : Type 0} (f : A → B) where
-  map-append : (s t : List A) → map f (s ++ t) ≡ map f s ++ map f t
+  pub map-append : (s t : List A) → map f (s ++ t) ≡ map f s ++ map f t
   map-append [] t = refl
   map-append (x ∷ s) t = ap {B = List B} (λ r. f x ∷ r) (map-append s t)
 
@@ -42,7 +42,7 @@ module _ {A B : Type 0} (f : A → B) where
   map-without (x ∷ l) zero = refl
   map-without (x ∷ l) (suc k) = ap {B = List B} (λ r. f x ∷ r) (map-without l k)
 
-  map-copies : (n : ℕ) (p : Option A) → copies-of n (Option·map f p) ≡ map f (copies-of n p)
+  pub map-copies : (n : ℕ) (p : Option A) → copies-of n (Option·map f p) ≡ map f (copies-of n p)
   unfolding copies-of
   map-copies n none = refl
   map-copies n (some p) = sym (map-replicate n p)
@@ -115,7 +115,7 @@ module _ {M N : Type 0} (f : M → N) where
 
   -- ## What an action asks of an end
 
-  abbrev in-asked : Asked M → Asked N
+  abbrev pub in-asked : Asked M → Asked N
   in-asked (console act) = console (in-console-act f act)
   in-asked (controller act) = controller (in-controller-act f act)
   in-asked no-end = no-end
@@ -191,6 +191,12 @@ module _ {M N : Type 0} (f : M → N) where
       nat-console-rules e ConsoleAct.go-down = refl
       nat-console-rules e ConsoleAct.come-back = refl
 
+      pub nat-console-step : (e : Console S M) (act : ConsoleAct M)
+          → console-step U good′ (in-console f e) (in-console-act f act) ≡ in-console-acted f (console-step U good e act)
+      unfolding console-step
+      nat-console-step e act =
+          rw (nat-console-rules, nat-console-acts) (sym (if-map (in-console-acted f) (eqb (refusal (console-rules U good e act)) 0) _ _))
+
     nat-controller-rules : (e : Controller S) (act : ControllerAct M)
         → controller-rules U e (in-controller-act f act) ≡ controller-rules U e act
     unfolding controller-rules
@@ -208,7 +214,7 @@ module _ {M N : Type 0} (f : M → N) where
 
     -- ## The bench
 
-    nat-asks : (b : Bench S M) (l : Letter) (k : ℕ) (m : M) → asks (in-bench f b) l k (f m) ≡ in-asked (asks b l k m)
+    pub nat-asks : (b : Bench S M) (l : Letter) (k : ℕ) (m : M) → asks (in-bench f b) l k (f m) ≡ in-asked (asks b l k m)
     unfolding asks
     nat-asks b P-put k m = refl
     nat-asks b Q-need k m = refl

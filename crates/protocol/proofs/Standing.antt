@@ -20,27 +20,27 @@ use Rattle.protocol.proofs.Bears.{Tracked, console-grows, controller-gr
 -- ## A weaker property
 
 module _ (F F′ G G′ : ℕ → Type 0) (f : (n : ℕ) → F n → F′ n) (g : (n : ℕ) → G n → G′ n) where
-  weaken-toController : {M : Type 0} (P : M → Type 0) (p : ToController M) → ToController-bears F G P p → ToController-bears F′ G′ P p
+  pub weaken-toController : {M : Type 0} (P : M → Type 0) (p : ToController M) → ToController-bears F G P p → ToController-bears F′ G′ P p
   weaken-toController P (needI j) h = f j h
   weaken-toController P (order i m) h = (g i (h .0), h .1)
   weaken-toController P (done i) h = g i h
 
-  weaken-toConsole : (p : ToConsole) → ToConsole-bears F G p → ToConsole-bears F′ G′ p
+  pub weaken-toConsole : (p : ToConsole) → ToConsole-bears F G p → ToConsole-bears F′ G′ p
   weaken-toConsole (offer j i) h = (f j (h .0), g i (h .1))
   weaken-toConsole (ok i) h = g i h
   weaken-toConsole (lost i) h = g i h
 
-  weaken-console : {M : Type 0} (P : M → Type 0) (k : ConsoleMode M) → Console-bears F G P k → Console-bears F′ G′ P k
+  pub weaken-console : {M : Type 0} (P : M → Type 0) (k : ConsoleMode M) → Console-bears F G P k → Console-bears F′ G′ P k
   weaken-console P ConsoleMode.idle h = tt
   weaken-console P (in-needI j m) h = (f j (h .0), h .1)
   weaken-console P (in-send last m) h = (g last (h .0), h .1)
 
-  weaken-controller : (k : ControllerMode) → Controller-bears F G k → Controller-bears F′ G′ k
+  pub weaken-controller : (k : ControllerMode) → Controller-bears F G k → Controller-bears F′ G′ k
   weaken-controller ControllerMode.idle h = tt
   weaken-controller (in-accept j i) h = (f j (h .0), g i (h .1))
   weaken-controller (in-ack last) h = g last h
 
-unchanged : (F : ℕ → Type 0) (n : ℕ) → F n → F n
+pub unchanged : (F : ℕ → Type 0) (n : ℕ) → F n → F n
 unchanged F n h = h
 
 -- ## The bench
@@ -54,12 +54,12 @@ module _ {S M : Type 0} (SoundJ SoundI : S → Type 0) (OwnJ BorneJ OwnI BorneI 
     pub to-controller : All (ToController-bears (BorneJ (b .console .numbers)) (BorneI (b .controller .numbers)) P) (b .toController)
     pub to-console : All (ToConsole-bears (BorneJ (b .console .numbers)) (BorneI (b .controller .numbers))) (b .toConsole)
 
-  abbrev Handed : S → S → Asked M → Type 0
+  abbrev pub Handed : S → S → Asked M → Type 0
   Handed j i (console act) = ConsoleAct-bears (BorneJ j) (BorneI i) P act
   Handed j i (controller act) = ControllerAct-bears (BorneJ j) (BorneI i) P act
   Handed j i no-end = Unit {0}
 
-  asks-handed : (b : Bench S M) (l : Letter) (k : ℕ) (m : M) → Bench-bears b → (l ≡ P-put → P m)
+  pub asks-handed : (b : Bench S M) (l : Letter) (k : ℕ) (m : M) → Bench-bears b → (l ≡ P-put → P m)
       → Handed (b .console .numbers) (b .controller .numbers) (asks b l k m)
   unfolding asks
   asks-handed b P-put k m h p = p refl
@@ -77,7 +77,7 @@ module _ {S M : Type 0} (SoundJ SoundI : S → Type 0) (OwnJ BorneJ OwnI BorneI 
   asks-handed b M-lose k m h p = tt
 
   module _ (U : Supply S) (x : Tracked S U SoundJ OwnJ BorneJ) (y : Tracked S U SoundI OwnI BorneI) where
-    does-bears : (b : Bench S M) (n : ℕ) (asked : Asked M) → Bench-bears b → Handed (b .console .numbers) (b .controller .numbers) asked
+    pub does-bears : (b : Bench S M) (n : ℕ) (asked : Asked M) → Bench-bears b → Handed (b .console .numbers) (b .controller .numbers) asked
         → Bench-bears (does U b n asked .after)
     unfolding does
     does-bears b n (console act) h u =

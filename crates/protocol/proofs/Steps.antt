@@ -52,14 +52,14 @@ ready-down-bears F G (in-ack last) h = h
 
 -- the answers at S and the deliveries at R leave the judge's flags of the two ends
 module _ {M : Type 0} (w : Judge M) (n held x y : ℕ) (c : M) where
-  S-console : (r : Report (Labelled M)) → judged w (row n held (action S-take x y c) r) .console ≡ w .console
+  pub S-console : (r : Report (Labelled M)) → judged w (row n held (action S-take x y c) r) .console ≡ w .console
   S-console nothing = refl
   S-console (delivered m) = refl
   S-console answered-ok = refl
   S-console answered-lost = refl
   S-console (refused k) = refl
 
-  R-controller : (r : Report (Labelled M)) → judged w (row n held (action R-take x y c) r) .controller ≡ w .controller
+  pub R-controller : (r : Report (Labelled M)) → judged w (row n held (action R-take x y c) r) .controller ≡ w .controller
   R-controller nothing = refl
   R-controller (delivered m) = refl
   R-controller answered-ok = refl
@@ -103,7 +103,7 @@ module _ {S M : Type 0} (U : Supply S) (laws : Lawful S U) (b : Bench S (Labelle
   abbrev controller-left : List (ToController (Labelled M)) → Bench S (Labelled M)
   controller-left left = record { console = b .console; controller = b .controller; toController = left; toConsole = b .toConsole }
 
-  by-console : (act : ConsoleAct (Labelled M)) (left : List ToConsole) (n : ℕ) (o : Option (Event M))
+  pub by-console : (act : ConsoleAct (Labelled M)) (left : List ToConsole) (n : ℕ) (o : Option (Event M))
       → Console-after F G w s r (h .on) o (console-turn next-J s act)
       → judged w o .console ≡ up-after (console-power act) (b .console .up) → All (ToConsole-bears F G) left → All (Down v) left
       → Good S M w o (does U (console-left left) n (console act))
@@ -132,7 +132,7 @@ module _ {S M : Type 0} (U : Supply S) (laws : Lawful S U) (b : Bench S (Labelle
             };
       }
 
-  by-controller : (act : ControllerAct (Labelled M)) (left : List (ToController (Labelled M))) (n : ℕ) (o : Option (Event M))
+  pub by-controller : (act : ControllerAct (Labelled M)) (left : List (ToController (Labelled M))) (n : ℕ) (o : Option (Event M))
       → Controller-after F G w s r (h .on) o (controller-turn next-I r act)
       → judged w o .controller ≡ up-after (controller-power act) (b .controller .up) → All (ToController-bears F G Any) left → All (Up v) left
       → Good S M w o (does U (controller-left left) n (controller act))
@@ -185,14 +185,14 @@ module _ {S M : Type 0} (U : Supply S) (laws : Lawful S U) (b : Bench S (Labelle
   -- ## Every action that is not refused
 
   -- the number that is next is not used
-  unused : (q : S) (next : Option ℕ) → U .next q ≡ next → Opt (λ n. Used U q n → ⊥) next
+  pub unused : (q : S) (next : Option ℕ) → U .next q ≡ next → Opt (λ n. Used U q n → ⊥) next
   unused q none e = tt
   unused q (some n) e = unlike U laws q n e
 
-  console-up : b .console .up ≡ true → T (w .console)
+  pub console-up : b .console .up ≡ true → T (w .console)
   console-up u = subst T (sym (h .console ∙ u)) tt
 
-  controller-up : b .controller .up ≡ true → T (w .controller)
+  pub controller-up : b .controller .up ≡ true → T (w .controller)
   controller-up u = subst T (sym (h .controller ∙ u)) tt
 
   module _ (n x y : ℕ) (c : M) where
@@ -201,7 +201,7 @@ module _ {S M : Type 0} (U : Supply S) (laws : Lawful S U) (b : Bench S (Labelle
         let o = effect U b (in-action (labelled n) (action l x y c)) in
         Good S M w (row n (held-label s) (action l x y c) (o .report)) o
 
-    P-keeps : n ≡ suc (w .count) → b .console .up ≡ true → holding s ≡ false → absent next-J ≡ false → Keeps P-put
+    pub P-keeps : n ≡ suc (w .count) → b .console .up ≡ true → holding s ≡ false → absent next-J ≡ false → Keeps P-put
     unfolding effect asks takes taken-out does console-acts console-turn up-after
     P-keeps e u q p =
         subst (λ z. Good S M w (row n (held-label s) (action P-put x y c) z) (effect U b (in-action (labelled n) (action P-put x y c))))
@@ -220,14 +220,14 @@ module _ {S M : Type 0} (U : Supply S) (laws : Lawful S U) (b : Bench S (Labelle
         (S-console w n (held-label s) x y c (console-turn next-J s (ConsoleAct.take (at (b .toConsole) x)) .report) ∙ h .console)
         (all-without _ (b .toConsole) x (k .to-console)) (all-without _ (b .toConsole) x (h .downs))
 
-    C-keeps : Keeps C-down
+    pub C-keeps : Keeps C-down
     unfolding effect asks takes taken-out does console-acts console-turn up-after
     C-keeps =
         by-console ConsoleAct.go-down (b .toConsole) y (some ConsoleDown)
         (record { on′ = h .on; allowed = tt; moves = stay F G v (w .controller) (w .since) (h .core); ready = h .ready-ups; sent = tt; held = h .held; controller = refl })
         refl (k .to-console) (h .downs)
 
-    V-keeps : b .console .up ≡ false → Keeps V-back
+    pub V-keeps : b .console .up ≡ false → Keeps V-back
     unfolding effect asks takes taken-out does console-acts console-turn up-after holding
     V-keeps u =
         by-console ConsoleAct.come-back (b .toConsole) y (some ConsoleBack)
@@ -251,7 +251,7 @@ module _ {S M : Type 0} (U : Supply S) (laws : Lawful S U) (b : Bench S (Labelle
         (R-controller w n (held-label s) x y c (controller-turn next-I r (ControllerAct.take (at (b .toController) x)) .report) ∙ h .controller)
         (all-without _ (b .toController) x (k .to-controller)) (all-without _ (b .toController) x (h .ups))
 
-    X-keeps : Keeps X-down
+    pub X-keeps : Keeps X-down
     unfolding effect asks takes taken-out does controller-acts controller-turn up-after
     X-keeps =
         by-controller ControllerAct.go-down (b .toController) y (some ControllerDown)
@@ -266,7 +266,7 @@ module _ {S M : Type 0} (U : Supply S) (laws : Lawful S U) (b : Bench S (Labelle
         })
         refl (k .to-controller) (h .ups)
 
-    Y-keeps : b .controller .up ≡ false → Keeps Y-back
+    pub Y-keeps : b .controller .up ≡ false → Keeps Y-back
     unfolding effect asks takes taken-out does controller-acts controller-turn up-after
     Y-keeps u =
         by-controller ControllerAct.come-back (b .toController) y (some ControllerBack)
@@ -282,28 +282,28 @@ module _ {S M : Type 0} (U : Supply S) (laws : Lawful S U) (b : Bench S (Labelle
         refl (k .to-controller) (h .ups)
 
     -- what Q, D, O and K send is ready
-    Q-keeps : Keeps Q-need
+    pub Q-keeps : Keeps Q-need
     unfolding effect asks takes taken-out does console-acts console-turn up-after
     Q-keeps =
         by-console send-needI (b .toConsole) y none
         (console-still F G w r (h .on) s _ (h .core) (h .ready-ups) (h .held) (needI-sent-good (Up v) s (h .ready-ups)))
         (h .console) (k .to-console) (h .downs)
 
-    D-keeps : Keeps D-data
+    pub D-keeps : Keeps D-data
     unfolding effect asks takes taken-out does console-acts console-turn up-after
     D-keeps =
         by-console send-data (b .toConsole) y none
         (console-still F G w r (h .on) s _ (h .core) (h .ready-ups) (h .held) (data-sent-good (Up v) s (h .ready-ups)))
         (h .console) (k .to-console) (h .downs)
 
-    O-keeps : Keeps O-offer
+    pub O-keeps : Keeps O-offer
     unfolding effect asks takes taken-out does controller-acts controller-turn up-after
     O-keeps =
         by-controller send-offer (b .toController) y none
         (controller-still F G w s (h .on) r _ (h .core) (h .ready-downs) (offer-sent-good (Down v) r (h .ready-downs)))
         (h .controller) (k .to-controller) (h .ups)
 
-    K-keeps : Keeps K-ok
+    pub K-keeps : Keeps K-ok
     unfolding effect asks takes taken-out does controller-acts controller-turn up-after
     K-keeps =
         by-controller send-ok (b .toController) y none

@@ -7,6 +7,7 @@ pub mod Letters
 pub mod Lists
 pub mod Log
 pub mod Plain
+pub mod Radio
 pub mod Relabel
 pub mod Starred
 pub mod Supply

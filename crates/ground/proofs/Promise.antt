@@ -22,6 +22,10 @@ DeterminedWith {n} ps r Post see = (κs : Lfts n) (a : Dens κs ps) (x y : resT 
 abbrev pub RulesOut : {n : ℕ} (ps : List (PK n)) (r : RK n) → Out n ps r → ((κs : Lfts n) → Dens κs ps → Type 0) → ((κs : Lfts n) → Dens κs ps → resT r κs .Denot → AtExit (endedOf n ps r) κs → Type 0) → Type 0
 RulesOut {n} ps r Post given does = (κs : Lfts n) (a : Dens κs ps) (x : resT r κs .Denot) (s : AtExit (endedOf n ps r) κs) → given κs a → does κs a x s → Post κs a x s → ⊥
 
+-- an outcome that is a refusal leaves what was there before it, given an input that its types allow
+abbrev pub RefusalLeaves : {n : ℕ} (ps : List (PK n)) (r : RK n) → Out n ps r → ((κs : Lfts n) → Dens κs ps → Type 0) → ((κs : Lfts n) → resT r κs .Denot → Type 0) → {B : Type 0} → ((κs : Lfts n) → Dens κs ps → B) → ((κs : Lfts n) → resT r κs .Denot → AtExit (endedOf n ps r) κs → B) → Type 0
+RefusalLeaves {n} ps r Post typed refused before after = (κs : Lfts n) (a : Dens κs ps) (x : resT r κs .Denot) (s : AtExit (endedOf n ps r) κs) → typed κs a → refused κs x → Post κs a x s → after κs x s ≡ before κs a
+
 -- numbers that differ, and values of which one can't be the other
 pub unequal : {m n : ℕ} → m ≡ n → eqb m n ≡ false → ⊥
 unequal {m} {n} e d = true≢false (sym (eq-eqb m n e) ∙ d)

@@ -3,7 +3,7 @@ ghost use mathlib.Core.Path.{_≡_};
 ghost use Rattle.ground.specs.Cell.{cell, cells, isMessage};
 ghost use Rattle.ground.specs.Every.{filled};
 
-pub fn is_cell(b: u8) -> bool
+fn is_cell(b: u8) -> bool
     ensures { λ r. ⌜ r ≡ cell b ⌝ }
 {
     (0x20 <= b) & (b <= 0x7E)

@@ -10,6 +10,7 @@ pub mod Outcomes
 pub mod Reading
 pub mod RecordTrips
 pub mod Trips
+pub mod Untouched
 pub mod Vectors
 pub mod Writing
 pub mod Wrong

@@ -21,7 +21,7 @@ use Rattle.wire.proofs.Found.{found-passes}
 use Rattle.wire.proofs.Frames.{framed, frame-rest, split-field}
 use Rattle.wire.proofs.Numbers.{value-bytesOf, field-below, field-back}
 
-own-record : (u : LastUsed) → lastUsedOf (endOf u) (numberOf u) ≡ Is u
+pub own-record : (u : LastUsed) → lastUsedOf (endOf u) (numberOf u) ≡ Is u
 unfolding lastUsedOf if_then_else_
 own-record (Console j) = refl
 own-record (Controller i) = refl
@@ -47,7 +47,7 @@ pub is-other : (n : ℕ) (a : LastUsed) → Refused n ≡ Is a → ⊥
 is-other n a e = let z : _≡_ {A = ℕ} 0 1 = cc in omega arith
 
 -- a last used is read from its own end and number
-record-says : (e n : ℕ) {u : LastUsed} → lastUsedOf e n ≡ Is u → (eqb e (endOf u) ≡ true) × (n ≡ numberOf u)
+pub record-says : (e n : ℕ) {u : LastUsed} → lastUsedOf e n ≡ Is u → (eqb e (endOf u) ≡ true) × (n ≡ numberOf u)
 unfolding lastUsedOf
 record-says e n r = found-passes (λ v. eqb e (endOf v)) Is (Refused 15) is-one (is-other 15) (λ v. n ≡ numberOf v) (Console (record { 0 = n }) ∷ Controller (record { 0 = n }) ∷ []) (refl, (refl, tt)) r
 

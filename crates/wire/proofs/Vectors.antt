@@ -8,8 +8,9 @@ use Rattle.ground.specs.Choice.{if_then_else_}
 use Rattle.ground.specs.Every.{filled}
 use Rattle.ground.specs.First.{first}
 use Rattle.wire.specs.Number.{bytesOf, value}
-use Rattle.wire.specs.Packet.{isBlank, fits, packetBytes, headOf, headAt, readRefusal, accepted, refused, packetRead, writeRefusal, packetWritten}
+use Rattle.wire.specs.Packet.{isBlank, directionOf, fits, packetBytes, headOf, headAt, readRefusal, accepted, refused, packetRead, writeRefusal, packetWritten}
 use Rattle.wire.specs.Record.{recordBytes, lastUsedOf, lastUsedAt, recordRefusal, recordRead, recordWriteRefusal, recordWritten}
+use Rattle.wire.specs.declared.Direction.the-variants.{ToController, ToConsole}
 use Rattle.wire.specs.declared.Head.the-variants.{NeedI, Offer, Data, Ok, Lost, Done}
 use Rattle.wire.specs.declared.LastUsed.{LastUsed}
 use Rattle.wire.specs.declared.LastUsed.the-variants.{Console, Controller}
@@ -55,6 +56,11 @@ packets =
     ∷ (record { head = Done (record { 0 = 65536 }); message = zeros }, laid 6 (0 ∷ 1 ∷ 0 ∷ 0 ∷ 0 ∷ 0 ∷ 0 ∷ 0 ∷ []) zeros)
     ∷ []
 
+-- which way each of them goes
+packets-go : map (λ (v : Packet × List ℕ). directionOf (v .0 .head)) packets
+    ≡ ToController ∷ ToConsole ∷ ToController ∷ ToController ∷ ToController ∷ ToConsole ∷ ToConsole ∷ ToController ∷ []
+packets-go = refl
+
 packets-written : map (λ (v : Packet × List ℕ). packetWritten (replicate 32 7) (v .0)) packets ≡ map (λ (v : Packet × List ℕ). v .1) packets
 unfolding packetWritten writeRefusal fits packetBytes bytesOf first if_then_else_ isBlank isMessage cells filled
 packets-written = refl
@@ -68,6 +74,7 @@ abbrev refusals : List (List ℕ × ℕ)
 refusals =
     (take 31 needI-1, 12)
     ∷ (needI-1 ++ (0 ∷ []), 12)
+    ∷ (take 31 (set needI-1 0 0x49), 12)
     ∷ (set needI-1 0 0x49, 13)
     ∷ (set needI-1 2 0x4E, 13)
     ∷ (set (set needI-1 2 0x4E) 4 2, 13)
@@ -130,8 +137,11 @@ abbrev record-refusals : List (List ℕ × ℕ)
 record-refusals =
     (take 11 unused, 12)
     ∷ (unused ++ (0 ∷ []), 12)
+    ∷ (take 11 (set unused 2 0x4C), 12)
     ∷ (set unused 2 0x4C, 13)
+    ∷ (set (set unused 2 0x4C) 4 2, 13)
     ∷ (set unused 4 2, 14)
+    ∷ (set (set unused 4 2) 5 3, 14)
     ∷ (set unused 5 0, 15)
     ∷ (set unused 5 3, 15)
     ∷ (set unused 7 1, 15)

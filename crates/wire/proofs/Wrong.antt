@@ -3,7 +3,7 @@ use Prim.Native.Nat.{ℕ, suc}
 use mathlib.Core.Path.{_≡_, refl, sym, ap, _∙_}
 use mathlib.Core.List.{List, [], _∷_}
 use native.Mathlib.Omega.{arith}
-use lib.ListN.{length, getD, set, replicate}
+use lib.ListN.{length, getD, take, set, replicate}
 use contract.Lifetimes.{Lfts}
 use borrow.Fn.Kinds.{Dens, endedOf}
 use denote.Ref.{now}
@@ -19,6 +19,7 @@ use Rattle.wire.specs.declared.Head.the-variants.{NeedI, Offer, Ok}
 use Rattle.wire.specs.declared.LastUsed.{LastUsed}
 use Rattle.wire.specs.declared.LastUsed.the-variants.{Console, Controller}
 use Rattle.wire.specs.declared.Packet.{Packet}
+use Rattle.wire.specs.declared.ReadHead.{ReadHead}
 use Rattle.wire.specs.declared.ReadHead.the-variants.{Refused, Is}
 use Rattle.wire.specs.declared.ReadPacket.{ReadPacket}
 use Rattle.wire.specs.declared.ReadRecord.the-variants.{Refused as Unread, Is as Last}
@@ -56,18 +57,45 @@ use Rattle.wire.proofs.records.write_record.Reads as write-record
 abbrev unused : LastUsed
 unused = Console (record { 0 = 0 })
 
--- a reader
-module _ (κs : Lfts 1) (a : Dens κs read-packet-kinds.ps) (s : AtExit (endedOf 1 read-packet-kinds.ps read-packet-kinds.r) κs) where
-  always-refuses : now (a .0) ≡ needI-1 → (n : ℕ) → read-packet.Post κs a (refused n) s → ⊥
-  always-refuses e n p =
-      let q : refused n ≡ accepted (needI 1) = p ∙ ap packetRead e ∙ needI-1-read in
-      is-other n (NeedI (record { 0 = 1 })) (ap (λ (r : ReadPacket). r .head) q)
+-- ## Packets
 
-  accepts-everything : now (a .0) ≡ [] → (p : Packet) → read-packet.Post κs a (accepted p) s → ⊥
-  unfolding packetRead readRefusal first if_then_else_
-  accepts-everything e p r =
-      let q : accepted p ≡ refused 12 = r ∙ ap packetRead e in
-      is-other 12 (p .head) (sym (ap (λ (x : ReadPacket). x .head) q))
+-- a reader
+pub always-refuses : RulesOut read-packet-kinds.ps read-packet-kinds.r read-packet.Post (λ κs a. now (a .0) ≡ needI-1) (λ κs a x s. (n : ℕ) × (x ≡ refused n))
+always-refuses κs a x s e w p =
+    let q : refused (w .0) ≡ accepted (needI 1) = sym (w .1) ∙ p ∙ ap packetRead e ∙ needI-1-read in
+    is-other (w .0) (NeedI (record { 0 = 1 })) (ap (λ (r : ReadPacket). r .head) q)
+
+pub accepts-everything : RulesOut read-packet-kinds.ps read-packet-kinds.r read-packet.Post (λ κs a. now (a .0) ≡ []) (λ κs a x s. (p : Packet) × (x ≡ accepted p))
+unfolding packetRead readRefusal first if_then_else_
+accepts-everything κs a x s e w p =
+    let q : accepted (w .0) ≡ refused 12 = sym (w .1) ∙ p ∙ ap packetRead e in
+    is-other 12 (w .0 .head) (sym (ap (λ (r : ReadPacket). r .head) q))
+
+-- a reader that takes needI with one byte changed, and the number that it should have given
+abbrev Takes : ℕ → ℕ → Type 0
+Takes at byte = RulesOut read-packet-kinds.ps read-packet-kinds.r read-packet.Post (λ κs a. now (a .0) ≡ set needI-1 at byte) (λ κs a x s. x .head ≡ Is (NeedI (record { 0 = 1 })))
+
+taken : (at byte n : ℕ) → packetRead (set needI-1 at byte) ≡ refused n → Takes at byte
+taken at byte n r κs a x s e w p = is-other n (NeedI (record { 0 = 1 })) (sym (ap (λ (q : ReadPacket). q .head) (p ∙ ap packetRead e ∙ r)) ∙ w)
+
+pub takes-another-mark : Takes 1 0x54
+unfolding packetRead readRefusal headAt headOf value bytesOf first if_then_else_ isBlank filled
+takes-another-mark = taken 1 0x54 13 refl
+
+pub takes-version-2 : Takes 4 2
+unfolding packetRead readRefusal headAt headOf value bytesOf first if_then_else_ isBlank filled
+takes-version-2 = taken 4 2 14 refl
+
+pub takes-a-space-for-a-zero : Takes 16 0x20
+unfolding packetRead readRefusal headAt headOf value bytesOf first if_then_else_ isBlank filled
+takes-a-space-for-a-zero = taken 16 0x20 15 refl
+
+pub reads-31-bytes-as-13 : RulesOut read-packet-kinds.ps read-packet-kinds.r read-packet.Post (λ κs a. now (a .0) ≡ take 31 needI-1) (λ κs a x s. x ≡ refused 13)
+unfolding packetRead readRefusal first if_then_else_
+reads-31-bytes-as-13 κs a x s e w p =
+    let q : Refused 13 ≡ Refused 12 = ap (λ (r : ReadPacket). r .head) (sym w ∙ p ∙ ap packetRead e) in
+    let z : _≡_ {A = ℕ} 13 12 = cc in
+    unequal z refl
 
 -- a reader of the head alone
 pub refuses-every-head : RulesOut read-head-kinds.ps read-head-kinds.r read-head.Post (λ κs a. now (a .0) ≡ needI-1) (λ κs a x s. (n : ℕ) × (x ≡ Refused n))
@@ -78,41 +106,46 @@ pub looks-at-no-message : RulesOut read-head-kinds.ps read-head-kinds.r read-hea
 unfolding packetRead readRefusal headAt headOf value bytesOf first if_then_else_ isBlank filled
 looks-at-no-message κs a x s e w p = is-other 15 (NeedI (record { 0 = 1 })) (sym (p ∙ ap (λ (l : List ℕ). packetRead l .head) e) ∙ w)
 
--- a writer
-module _ (κs : Lfts 1) (a : Dens κs write-packet-kinds.ps) (n : ℕ) (s : AtExit (endedOf 1 write-packet-kinds.ps write-packet-kinds.r) κs) (zeros : now (a .0) ≡ replicate 32 0) where
-  changes-nothing : a .1 .0 ≡ needI 1 → now (s .0) ≡ now (a .0) → write-packet.Post κs a n s → ⊥
-  changes-nothing e k p =
-      let w : packetWritten (replicate 32 0) (needI 1) ≡ needI-1 = packet-written (replicate 32 0) (needI 1) refl (needI-fits (record { 0 = 1 }) (omega arith)) ∙ needI-1-written in
-      let q : replicate 32 0 ≡ needI-1 = sym zeros ∙ sym k ∙ p .1 ∙ (λ i. packetWritten (zeros i) (e i)) ∙ w in
-      let z : _≡_ {A = ℕ} 0 0x48 = ap (λ (l : List ℕ). getD l 0 0) q in
-      omega (arith, z)
+-- a writer that is lent zero bytes
+abbrev Writes : ℕ → Packet → ((κs : Lfts 1) → Dens κs write-packet-kinds.ps → ℕ → AtExit (endedOf 1 write-packet-kinds.ps write-packet-kinds.r) κs → Type 0) → Type 0
+Writes n q does = RulesOut write-packet-kinds.ps write-packet-kinds.r write-packet.Post (λ κs a. (now (a .0) ≡ replicate n 0) × (a .1 .0 ≡ q)) does
 
-  touches-on-15 : a .1 .0 ≡ needI 0 → (now (s .0) ≡ now (a .0) → ⊥) → write-packet.Post κs a n s → ⊥
-  unfolding packetWritten writeRefusal fits first if_then_else_
-  touches-on-15 e k p = k (p .1 ∙ (λ i. packetWritten (zeros i) (e i)) ∙ sym zeros)
+pub changes-nothing : Writes 32 (needI 1) (λ κs a x s. now (s .0) ≡ now (a .0))
+changes-nothing κs a x s e w p =
+    let all : packetWritten (replicate 32 0) (needI 1) ≡ needI-1 = packet-written (replicate 32 0) (needI 1) refl (needI-fits (record { 0 = 1 }) (omega arith)) ∙ needI-1-written in
+    let q : replicate 32 0 ≡ needI-1 = sym (e .0) ∙ sym w ∙ p .1 ∙ (λ i. packetWritten (e .0 i) (e .1 i)) ∙ all in
+    unequal (ap (λ (l : List ℕ). getD l 0 0) q) refl
 
-  always-writes : a .1 .0 ≡ needI 0 → n ≡ 0 → write-packet.Post κs a n s → ⊥
-  unfolding writeRefusal fits first if_then_else_
-  always-writes e k p =
-      let q : _≡_ {A = ℕ} 0 15 = sym k ∙ p .0 ∙ (λ i. writeRefusal (length (zeros i)) (e i)) in
-      omega (arith, q)
+pub touches-on-15 : Writes 32 (needI 0) (λ κs a x s. now (s .0) ≡ now (a .0) → ⊥)
+unfolding packetWritten writeRefusal fits first if_then_else_
+touches-on-15 κs a x s e w p = w (p .1 ∙ (λ i. packetWritten (e .0 i) (e .1 i)) ∙ sym (e .0))
 
--- the same of records
-module _ (κs : Lfts 1) (a : Dens κs read-record-kinds.ps) (s : AtExit (endedOf 1 read-record-kinds.ps read-record-kinds.r) κs) where
-  always-refuses-record : now (a .0) ≡ recordBytes unused → (n : ℕ) → read-record.Post κs a (Unread n) s → ⊥
-  always-refuses-record e n p = is-unread n unused (p ∙ ap recordRead e ∙ record-read-back unused (omega arith))
+pub always-writes : Writes 32 (needI 0) (λ κs a x s. x ≡ 0)
+unfolding writeRefusal fits first if_then_else_
+always-writes κs a x s e w p = unequal (sym w ∙ p .0 ∙ (λ i. writeRefusal (length (e .0 i)) (e .1 i))) refl
 
-  accepts-every-record : now (a .0) ≡ [] → (u : LastUsed) → read-record.Post κs a (Last u) s → ⊥
-  unfolding recordRead recordRefusal first if_then_else_
-  accepts-every-record e u p = is-unread 12 u (sym (p ∙ ap recordRead e))
+pub says-12-outside-the-table : Writes 32 (needI 0) (λ κs a x s. x ≡ 12)
+unfolding writeRefusal fits first if_then_else_
+says-12-outside-the-table κs a x s e w p = unequal (sym w ∙ p .0 ∙ (λ i. writeRefusal (length (e .0 i)) (e .1 i))) refl
 
-module _ (κs : Lfts 1) (a : Dens κs write-record-kinds.ps) (n : ℕ) (s : AtExit (endedOf 1 write-record-kinds.ps write-record-kinds.r) κs) where
-  changes-no-record : now (a .0) ≡ replicate 12 0 → now (s .0) ≡ now (a .0) → write-record.Post κs a n s → ⊥
-  unfolding recordWritten recordWriteRefusal recordBytes first if_then_else_
-  changes-no-record e k p =
-      let q : replicate 12 0 ≡ recordBytes (a .1 .0) = sym e ∙ sym k ∙ p .1 ∙ ap (λ (l : List ℕ). recordWritten l (a .1 .0)) e in
-      let z : _≡_ {A = ℕ} 0 0x48 = ap (λ (l : List ℕ). getD l 0 0) q in
-      omega (arith, z)
+pub says-15-of-31-bytes : Writes 31 (needI 0) (λ κs a x s. x ≡ 15)
+unfolding writeRefusal first if_then_else_
+says-15-of-31-bytes κs a x s e w p = unequal (sym w ∙ p .0 ∙ (λ i. writeRefusal (length (e .0 i)) (e .1 i))) refl
+
+-- ## Number records
+
+pub always-refuses-record : RulesOut read-record-kinds.ps read-record-kinds.r read-record.Post (λ κs a. now (a .0) ≡ recordBytes unused) (λ κs a x s. (n : ℕ) × (x ≡ Unread n))
+always-refuses-record κs a x s e w p = is-unread (w .0) unused (sym (w .1) ∙ p ∙ ap recordRead e ∙ record-read-back unused (omega arith))
+
+pub accepts-every-record : RulesOut read-record-kinds.ps read-record-kinds.r read-record.Post (λ κs a. now (a .0) ≡ []) (λ κs a x s. (u : LastUsed) × (x ≡ Last u))
+unfolding recordRead recordRefusal first if_then_else_
+accepts-every-record κs a x s e w p = is-unread 12 (w .0) (sym (p ∙ ap recordRead e) ∙ w .1)
+
+pub changes-no-record : RulesOut write-record-kinds.ps write-record-kinds.r write-record.Post (λ κs a. now (a .0) ≡ replicate 12 0) (λ κs a x s. now (s .0) ≡ now (a .0))
+unfolding recordWritten recordWriteRefusal recordBytes first if_then_else_
+changes-no-record κs a x s e w p =
+    let q : replicate 12 0 ≡ recordBytes (a .1 .0) = sym e ∙ sym w ∙ p .1 ∙ ap (λ (l : List ℕ). recordWritten l (a .1 .0)) e in
+    unequal (ap (λ (l : List ℕ). getD l 0 0) q) refl
 
 -- one that looks for 12 bytes at least
 pub writes-to-13-bytes : RulesOut write-record-kinds.ps write-record-kinds.r write-record.Post (λ κs a. now (a .0) ≡ replicate 13 0) (λ κs a x s. x ≡ 0)
@@ -130,6 +163,17 @@ swaps-the-directions κs a x s e w p = let q : ToConsole ≡ ToController = sym 
 pub needI-with-a-second-number : RulesOut head-of-kinds.ps head-of-kinds.r head-of.Post (λ κs a. (a .0 ≡ 1) × (a .1 .0 ≡ 1) × (a .1 .1 .0 ≡ 1)) (λ κs a x s. x ≡ Is (NeedI (record { 0 = 1 })))
 unfolding headOf if_then_else_
 needI-with-a-second-number κs a x s e w p = is-other 15 (NeedI (record { 0 = 1 })) (sym (p ∙ (λ i. headOf (e .0 i) (e .1 i) (e .2 i))) ∙ w)
+
+abbrev Heads : ℕ → ReadHead → Type 0
+Heads i h = RulesOut head-of-kinds.ps head-of-kinds.r head-of.Post (λ κs a. (a .0 ≡ 2) × (a .1 .0 ≡ 1) × (a .1 .1 .0 ≡ i)) (λ κs a x s. x ≡ h)
+
+pub refuses-an-offer-of-1 : Heads 1 (Refused 15)
+unfolding headOf if_then_else_
+refuses-an-offer-of-1 κs a x s e w p = is-other 15 (Offer (record { 0 = 1 }) (record { 0 = 1 })) (sym w ∙ p ∙ (λ i. headOf (e .0 i) (e .1 i) (e .2 i)))
+
+pub takes-an-offer-of-0 : Heads 0 (Is (Offer (record { 0 = 1 }) (record { 0 = 0 })))
+unfolding headOf if_then_else_
+takes-an-offer-of-0 κs a x s e w p = is-other 15 (Offer (record { 0 = 1 }) (record { 0 = 0 })) (sym (p ∙ (λ i. headOf (e .0 i) (e .1 i) (e .2 i))) ∙ w)
 
 pub first-number-twice : RulesOut fields-of-kinds.ps fields-of-kinds.r fields-of.Post (λ κs a. a .0 ≡ NeedI (record { 0 = 1 })) (λ κs a x s. x .second ≡ x .first)
 first-number-twice κs a x s e w p = unequal (sym (p .1 ∙ ap firstOf e) ∙ sym w ∙ p .2 ∙ ap secondOf e) refl
@@ -164,3 +208,10 @@ next-number κs a x s e w p = unequal (sym (ap (λ u. suc (numberOf u)) e) ∙ s
 pub refuses-number-0 : RulesOut last-used-of-kinds.ps last-used-of-kinds.r last-used-of.Post (λ κs a. (a .0 ≡ 1) × (a .1 .0 ≡ 0)) (λ κs a x s. x ≡ Unread 15)
 unfolding lastUsedOf if_then_else_
 refuses-number-0 κs a x s e w p = is-unread 15 unused (sym w ∙ p ∙ (λ i. lastUsedOf (e .0 i) (e .1 i)))
+
+pub says-14-of-end-3 : RulesOut last-used-of-kinds.ps last-used-of-kinds.r last-used-of.Post (λ κs a. a .0 ≡ 3) (λ κs a x s. x ≡ Unread 14)
+unfolding lastUsedOf if_then_else_
+says-14-of-end-3 κs a x s e w p =
+    let q : Unread 14 ≡ Unread 15 = sym w ∙ p ∙ ap (λ (n : ℕ). lastUsedOf n (a .1 .0)) e in
+    let z : _≡_ {A = ℕ} 14 15 = cc in
+    unequal z refl

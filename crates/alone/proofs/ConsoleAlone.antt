@@ -78,14 +78,21 @@ module _ {n : ℕ} {good : Bool} (c : Console) (e : End) (a : Act) (m : List ℕ
 -- ## The entry
 
 module _ {asked : Asked} {read : ConsoleRead} (c : Console) (l : ℕ) (m packet reply : List ℕ) (asks : asked ≡ consoleAsked (foundOf (letter l)) (packetRead packet .head) (length reply)) (reads : read ≡ consoleRead c) where
-  pub alone-refused : {n k : ℕ} {b : Bool} {x : ConsoleOutcome} → asked ≡ asked-is.Refused n → b ≡ consoleWasRead read → k ≡ early n b → x ≡ record { report = report.Refused k; sent = false; console = c }
+  refused-as : {n k : ℕ} {b : Bool} {x : ConsoleOutcome} → asked ≡ asked-is.Refused n → b ≡ consoleWasRead read → k ≡ early n b → x ≡ record { report = report.Refused k; sent = false; console = c }
       → record { outcome = x; reply = reply } ≡ consoleAlone c l m packet reply
   unfolding consoleAlone
-  alone-refused {n} f b g h =
+  refused-as {n} f b g h =
       let ks = g ∙ ap (early n) (b ∙ ap consoleWasRead reads ∙ was-read-so c) in
       (λ i. record { outcome = h i; reply = reply })
       ∙ (λ i. record { outcome = record { report = report.Refused (ks i); sent = false; console = c }; reply = reply })
       ∙ ap (λ (a : Asked). consoleDoes c a m reply) (sym f ∙ asks)
+
+  module _ {n k : ℕ} {x : ConsoleOutcome} (f : asked ≡ asked-is.Refused n) (h : x ≡ record { report = report.Refused k; sent = false; console = c }) where
+    pub refused-ill : read ≡ IllFormed → k ≡ early n false → record { outcome = x; reply = reply } ≡ consoleAlone c l m packet reply
+    refused-ill i g = refused-as f (ap consoleWasRead (sym i)) g h
+
+    pub refused-well : {e : End} → read ≡ Is e → k ≡ early n true → record { outcome = x; reply = reply } ≡ consoleAlone c l m packet reply
+    refused-well i g = refused-as f (ap consoleWasRead (sym i)) g h
 
   pub alone-ill : {a : Act} {x : ConsoleOutcome} → asked ≡ asked-is.Is a → read ≡ IllFormed → x ≡ record { report = report.Refused 2; sent = false; console = c }
       → record { outcome = x; reply = reply } ≡ consoleAlone c l m packet reply

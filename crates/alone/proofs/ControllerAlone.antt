@@ -72,13 +72,20 @@ module _ {request : Request} {read : ControllerRead} (c : Controller) (l : ℕ) 
       (λ i. controllerDoes c (sym f i) (request .message) reply)
       ∙ ap (λ (r : Request). controllerDoes c (r .asked) (r .message) reply) asks
 
-  pub alone-refused : {n k : ℕ} {b : Bool} {x : ControllerOutcome} → request .asked ≡ asked-is.Refused n → b ≡ controllerWasRead read → k ≡ early n b → x ≡ record { report = report.Refused k; message = spaces; sent = false; controller = c }
+  refused-as : {n k : ℕ} {b : Bool} {x : ControllerOutcome} → request .asked ≡ asked-is.Refused n → b ≡ controllerWasRead read → k ≡ early n b → x ≡ record { report = report.Refused k; message = spaces; sent = false; controller = c }
       → record { outcome = x; reply = reply } ≡ controllerAlone c l packet reply
-  alone-refused {n} f b g h =
+  refused-as {n} f b g h =
       let ks = g ∙ ap (early n) (b ∙ ap controllerWasRead reads ∙ was-read-so c) in
       (λ i. record { outcome = h i; reply = reply })
       ∙ (λ i. record { outcome = record { report = report.Refused (ks i); message = spaces; sent = false; controller = c }; reply = reply })
       ∙ decides f
+
+  module _ {n k : ℕ} {x : ControllerOutcome} (f : request .asked ≡ asked-is.Refused n) (h : x ≡ record { report = report.Refused k; message = spaces; sent = false; controller = c }) where
+    pub refused-ill : read ≡ IllFormed → k ≡ early n false → record { outcome = x; reply = reply } ≡ controllerAlone c l packet reply
+    refused-ill i g = refused-as f (ap controllerWasRead (sym i)) g h
+
+    pub refused-well : {e : End} → read ≡ Is e → k ≡ early n true → record { outcome = x; reply = reply } ≡ controllerAlone c l packet reply
+    refused-well i g = refused-as f (ap controllerWasRead (sym i)) g h
 
   pub alone-ill : {a : Act} {x : ControllerOutcome} → request .asked ≡ asked-is.Is a → read ≡ IllFormed → x ≡ record { report = report.Refused 2; message = spaces; sent = false; controller = c }
       → record { outcome = x; reply = reply } ≡ controllerAlone c l packet reply

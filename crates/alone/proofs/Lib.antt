@@ -1,3 +1,5 @@
+pub mod ByAct
+pub mod Calls
 pub mod ConsoleAlone
 pub mod ConsoleAsking
 pub mod ConsoleReady
@@ -7,6 +9,9 @@ pub mod ControllerAsking
 pub mod ControllerReady
 pub mod ControllerTold
 pub mod Determined
+pub mod Letters
+pub mod PowerLoss
+pub mod Refusals
 pub mod Told
 pub mod Vectors
 pub mod Wrong

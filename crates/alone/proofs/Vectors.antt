@@ -1,4 +1,4 @@
--- Worked examples of an end run alone, computed: a delivery, an answer, K, packets that come too late, and the refusals in their order.
+-- Worked examples of an end run alone, computed: each letter, packets that come too late, and the refusals in their order.
 use Prim.Native.Nat.{ℕ}
 use mathlib.Core.Path.{_≡_, refl}
 use mathlib.Core.Bool.{Bool, true, false}
@@ -27,61 +27,112 @@ use Rattle.alone.specs.Alone.{lent, early}
 use Rattle.alone.specs.ConsoleAlone.{ConsoleAlone, consoleStepped, consoleAlone}
 use Rattle.alone.specs.ControllerAlone.{ControllerAlone, controllerStepped, controllerAlone}
 
-abbrev packet : Head → List ℕ → List ℕ
+-- all that an example computes with
+unfoldable pub opened : Unit {0}
+unfolding consoleAlone consoleOk consoleMode consoleStepped controllerAlone controllerOk controllerMode controllerStepped rules.ends next-counted
+    packetBytes packetRead readRefusal headAt headOf value bytesOf isBlank isMessage cells filled lent early line letters among letter lineOf
+opened = tt
+
+abbrev pub packet : Head → List ℕ → List ℕ
 packet h m = packetBytes (record { head = h; message = m })
 
 -- "START FILLER 03 "
 abbrev start : List ℕ
 start = 0x53 ∷ 0x54 ∷ 0x41 ∷ 0x52 ∷ 0x54 ∷ 0x20 ∷ 0x46 ∷ 0x49 ∷ 0x4C ∷ 0x4C ∷ 0x45 ∷ 0x52 ∷ 0x20 ∷ 0x30 ∷ 0x33 ∷ 0x20 ∷ []
 
-abbrev room : List ℕ
+abbrev pub room : List ℕ
 room = replicate 32 7
 
-abbrev short : List ℕ
+abbrev pub short : List ℕ
 short = replicate 31 7
 
--- last used I 3, which is offered
-abbrev accepting : Controller
-accepting = controllerWith (record { 0 = 3 }) (Accept (record { 0 = 1 }) (record { 0 = 3 })) true
+-- ## The controller
 
-delivery : controllerAlone accepting 0x52 (packet (Data (record { 0 = 3 })) start) room
-    ≡ record {
-      outcome = record { report = report.Delivered; message = start; sent = true; controller = controllerWith (record { 0 = 3 }) (Ack (record { 0 = 3 })) true };
-      reply = packet (Ok (record { 0 = 3 })) zeros;
-    }
-unfolding controllerAlone controllerOk controllerMode controllerStepped rules.ends next-counted packetBytes packetRead readRefusal headAt headOf
-    value bytesOf isBlank isMessage cells filled lent early line letters among letter lineOf
-delivery = refl
+-- last used I 3, which is offered
+abbrev pub accepting : Controller
+accepting = controllerWith (record { 0 = 3 }) (Accept (record { 0 = 1 }) (record { 0 = 3 })) true
 
 -- the order with I 3 is delivered
 abbrev acking : Controller
 acking = controllerWith (record { 0 = 3 }) (Ack (record { 0 = 3 })) true
 
--- nothing to report, and the controller as it was
+-- the same, down: nothing is cleared
+abbrev acking-down : Controller
+acking-down = controllerWith (record { 0 = 3 }) (Ack (record { 0 = 3 })) false
+
+-- nothing to report
 abbrev stays : Bool → List ℕ → Controller → ControllerAlone
 stays sent reply c = record { outcome = record { report = report.Nothing; message = spaces; sent = sent; controller = c }; reply = reply }
 
--- K: OK(last)
-ok-again : controllerAlone acking 0x4B [] room ≡ stays true (packet (Ok (record { 0 = 3 })) zeros) acking
-unfolding controllerAlone controllerOk controllerMode controllerStepped rules.ends next-counted packetBytes packetRead readRefusal headAt headOf
-    value bytesOf isBlank isMessage cells filled lent early line letters among letter lineOf
-ok-again = refl
+-- a controller, a letter, a packet in, a reply buffer
+abbrev alone : Controller × ℕ × List ℕ × List ℕ → ControllerAlone
+alone a = controllerAlone (a .0) (a .1) (a .2) (a .3)
+
+-- R of needI: j and the next I; O: offer(j, i); R of data: delivered, with OK for it; K: OK(last); R of done: last cleared; X; Y
+each-letter : map alone
+    ((freshController (record { 0 = 2 }), 0x52, packet (NeedI (record { 0 = 1 })) zeros, room)
+    ∷ (accepting, 0x4F, [], room)
+    ∷ (accepting, 0x52, packet (Data (record { 0 = 3 })) start, room)
+    ∷ (acking, 0x4B, [], room)
+    ∷ (acking, 0x52, packet (Done (record { 0 = 3 })) zeros, room)
+    ∷ (acking, 0x58, [], [])
+    ∷ (acking-down, 0x59, [], [])
+    ∷ [])
+    ≡ (stays false room accepting
+    ∷ stays true (packet (Offer (record { 0 = 1 }) (record { 0 = 3 })) zeros) accepting
+    ∷ record { outcome = record { report = report.Delivered; message = start; sent = true; controller = acking }; reply = packet (Ok (record { 0 = 3 })) zeros }
+    ∷ stays true (packet (Ok (record { 0 = 3 })) zeros) acking
+    ∷ stays false room (freshController (record { 0 = 3 }))
+    ∷ stays false [] acking-down
+    ∷ stays false [] (freshController (record { 0 = 3 }))
+    ∷ [])
+unfolding opened
+each-letter = refl
+
+-- P Q D S C V L M, with a packet and a reply buffer that are good
+others : map (λ l. controllerAlone accepting l (packet (Offer (record { 0 = 1 }) (record { 0 = 3 })) zeros) room .outcome .report) (0x50 ∷ 0x51 ∷ 0x44 ∷ 0x53 ∷ 0x43 ∷ 0x56 ∷ 0x4C ∷ 0x4D ∷ [])
+    ≡ replicate 8 (report.Refused 1)
+unfolding opened
+others = refl
 
 abbrev any-mode : List Controller
 any-mode = freshController (record { 0 = 3 }) ∷ accepting ∷ acking ∷ []
 
+abbrev takes : Head → List ℕ → Controller → ControllerAlone
+takes h m c = controllerAlone c 0x52 (packet h m) room
+
+abbrev spent : Controller
+spent = freshController (record { 0 = 4294967295 })
+
+-- needI in accept, in ack, and with the numbers spent: dropped
+needI-dropped : map (takes (NeedI (record { 0 = 2 })) zeros) (accepting ∷ acking ∷ spent ∷ []) ≡ map (stays false room) (accepting ∷ acking ∷ spent ∷ [])
+unfolding opened
+needI-dropped = refl
+
+-- data that is neither i nor last: lost for it; data that was delivered: dropped
+stray-data : map (takes (Data (record { 0 = 2 })) start) any-mode ≡ map (stays true (packet (Lost (record { 0 = 2 })) zeros)) any-mode
+unfolding opened
+stray-data = refl
+
+repeat-dropped : takes (Data (record { 0 = 3 })) start acking ≡ stays false room acking
+unfolding opened
+repeat-dropped = refl
+
+-- done for what is offered: j and i cleared
+done-of-an-offer : takes (Done (record { 0 = 3 })) zeros accepting ≡ stays false room (freshController (record { 0 = 3 }))
+unfolding opened
+done-of-an-offer = refl
+
 -- a done that is neither i nor last is dropped
-stray-done : map (λ c. controllerAlone c 0x52 (packet (Done (record { 0 = 2 })) zeros) room) any-mode ≡ map (stays false room) any-mode
-unfolding controllerAlone controllerOk controllerMode controllerStepped rules.ends next-counted packetBytes packetRead readRefusal headAt headOf
-    value bytesOf isBlank isMessage cells filled lent early line letters among letter lineOf
+stray-done : map (takes (Done (record { 0 = 2 })) zeros) any-mode ≡ map (stays false room) any-mode
+unfolding opened
 stray-done = refl
 
-abbrev ill-formed : Controller
+abbrev pub ill-formed : Controller
 ill-formed = record { used = record { 0 = 3 }; j = record { 0 = 1 }; i = record { 0 = 0 }; last = record { 0 = 0 }; up = true }
 
--- a controller, a letter, a packet in, a reply buffer
 abbrev tells : Controller × ℕ × List ℕ × List ℕ → Report
-tells a = controllerAlone (a .0) (a .1) (a .2) (a .3) .outcome .report
+tells a = alone a .outcome .report
 
 -- P, and a byte that is no letter; 2 before 12; 12 of the buffer, with nothing to send; 12, 13 and 15 of the packet; 4, 5, 6, 7
 refused : map tells
@@ -98,42 +149,90 @@ refused : map tells
     ∷ (accepting, 0x52, packet (Data (record { 0 = 5 })) start, room)
     ∷ [])
     ≡ map report.Refused (1 ∷ 1 ∷ 2 ∷ 12 ∷ 12 ∷ 13 ∷ 15 ∷ 4 ∷ 5 ∷ 6 ∷ 7 ∷ [])
-unfolding controllerAlone controllerOk controllerMode controllerStepped rules.ends next-counted packetBytes packetRead readRefusal headAt headOf
-    value bytesOf isBlank isMessage cells filled lent early line letters among letter lineOf
+unfolding opened
 refused = refl
 
--- the console: the answer OK, with done for it
-abbrev sending : Console
+-- ## The console
+
+-- last used J 1, which is asked for
+abbrev needing : Console
+needing = consoleWith (record { 0 = 1 }) (mode.NeedI (record { 0 = 1 })) true start
+
+-- the order with I 3 is being sent
+abbrev pub sending : Console
 sending = consoleWith (record { 0 = 1 }) (mode.Send (record { 0 = 3 })) true start
 
-answer : consoleAlone sending 0x53 spaces (packet (Ok (record { 0 = 3 })) zeros) room
-    ≡ record { outcome = record { report = report.Ok; sent = true; console = freshConsole (record { 0 = 1 }) }; reply = packet (Done (record { 0 = 3 })) zeros }
-unfolding consoleAlone consoleOk consoleMode consoleStepped rules.ends next-counted packetBytes packetRead readRefusal headAt headOf
-    value bytesOf isBlank isMessage cells filled lent early line letters among letter lineOf
-answer = refl
+-- the same, down: nothing is cleared
+abbrev sending-down : Console
+sending-down = consoleWith (record { 0 = 1 }) (mode.Send (record { 0 = 3 })) false start
 
--- nothing to report, and the console as it was
+-- nothing to report
 abbrev console-stays : Bool → List ℕ → Console → ConsoleAlone
 console-stays sent reply c = record { outcome = record { report = report.Nothing; sent = sent; console = c }; reply = reply }
 
+-- a console, a letter, a message, a packet in, a reply buffer
+abbrev console-alone : Console × ℕ × List ℕ × List ℕ × List ℕ → ConsoleAlone
+console-alone a = consoleAlone (a .0) (a .1) (a .2) (a .3) (a .4)
+
+-- P: held, with the next J; Q: needI(j); S of an offer: last; D: data(last, message); S of OK: the answer, with done for it; C; V
+console-each-letter : map console-alone
+    ((freshConsole (record { 0 = 0 }), 0x50, start, [], [])
+    ∷ (needing, 0x51, spaces, [], room)
+    ∷ (needing, 0x53, spaces, packet (Offer (record { 0 = 1 }) (record { 0 = 3 })) zeros, room)
+    ∷ (sending, 0x44, spaces, [], room)
+    ∷ (sending, 0x53, spaces, packet (Ok (record { 0 = 3 })) zeros, room)
+    ∷ (sending, 0x43, spaces, [], [])
+    ∷ (sending-down, 0x56, spaces, [], [])
+    ∷ [])
+    ≡ (console-stays false [] needing
+    ∷ console-stays true (packet (NeedI (record { 0 = 1 })) zeros) needing
+    ∷ console-stays false room sending
+    ∷ console-stays true (packet (Data (record { 0 = 3 })) start) sending
+    ∷ record { outcome = record { report = report.Ok; sent = true; console = freshConsole (record { 0 = 1 }) }; reply = packet (Done (record { 0 = 3 })) zeros }
+    ∷ console-stays false [] sending-down
+    ∷ console-stays false [] (freshConsole (record { 0 = 1 }))
+    ∷ [])
+unfolding opened
+console-each-letter = refl
+
+-- O K R X Y L M, with a message, a packet and a reply buffer that are good
+console-others : map (λ l. consoleAlone sending l start (packet (Data (record { 0 = 3 })) start) room .outcome .report) (0x4F ∷ 0x4B ∷ 0x52 ∷ 0x58 ∷ 0x59 ∷ 0x4C ∷ 0x4D ∷ [])
+    ≡ replicate 7 (report.Refused 1)
+unfolding opened
+console-others = refl
+
 abbrev any-console : List Console
-any-console = freshConsole (record { 0 = 1 }) ∷ consoleWith (record { 0 = 1 }) (mode.NeedI (record { 0 = 1 })) true start ∷ sending ∷ []
+any-console = freshConsole (record { 0 = 1 }) ∷ needing ∷ sending ∷ []
+
+abbrev hears : Head → Console → ConsoleAlone
+hears h c = consoleAlone c 0x53 spaces (packet h zeros) room
+
+-- an offer that is neither awaited nor of the order being sent: done for it; one that is of that order: dropped
+old-offer : map (hears (Offer (record { 0 = 7 }) (record { 0 = 2 }))) any-console ≡ map (console-stays true (packet (Done (record { 0 = 2 })) zeros)) any-console
+unfolding opened
+old-offer = refl
+
+offer-being-sent : hears (Offer (record { 0 = 1 }) (record { 0 = 3 })) sending ≡ console-stays false room sending
+unfolding opened
+offer-being-sent = refl
+
+-- lost for the order being sent: the answer, message and last cleared, no reply
+lost-answered : hears (Lost (record { 0 = 3 })) sending ≡ record { outcome = record { report = report.Lost; sent = false; console = freshConsole (record { 0 = 1 }) }; reply = room }
+unfolding opened
+lost-answered = refl
 
 -- an OK that is not last: done for it
-old-ok : map (λ c. consoleAlone c 0x53 spaces (packet (Ok (record { 0 = 2 })) zeros) room) any-console ≡ map (console-stays true (packet (Done (record { 0 = 2 })) zeros)) any-console
-unfolding consoleAlone consoleOk consoleMode consoleStepped rules.ends next-counted packetBytes packetRead readRefusal headAt headOf
-    value bytesOf isBlank isMessage cells filled lent early line letters among letter lineOf
+old-ok : map (hears (Ok (record { 0 = 2 }))) any-console ≡ map (console-stays true (packet (Done (record { 0 = 2 })) zeros)) any-console
+unfolding opened
 old-ok = refl
 
 -- a lost that is not last is dropped
-old-lost : map (λ c. consoleAlone c 0x53 spaces (packet (Lost (record { 0 = 2 })) zeros) room) any-console ≡ map (console-stays false room) any-console
-unfolding consoleAlone consoleOk consoleMode consoleStepped rules.ends next-counted packetBytes packetRead readRefusal headAt headOf
-    value bytesOf isBlank isMessage cells filled lent early line letters among letter lineOf
+old-lost : map (hears (Lost (record { 0 = 2 }))) any-console ≡ map (console-stays false room) any-console
+unfolding opened
 old-lost = refl
 
--- a console, a letter, a message, a packet in, a reply buffer
 abbrev console-tells : Console × ℕ × List ℕ × List ℕ × List ℕ → Report
-console-tells a = consoleAlone (a .0) (a .1) (a .2) (a .3) (a .4) .outcome .report
+console-tells a = console-alone a .outcome .report
 
 -- R; 12 of the buffer before 6, and with nothing to send; 15; 11 before 4; 4, 5, 6, 8
 console-refused : map console-tells
@@ -149,6 +248,5 @@ console-refused : map console-tells
     ∷ (freshConsole (record { 0 = 4294967295 }), 0x50, spaces, [], [])
     ∷ [])
     ≡ map report.Refused (1 ∷ 12 ∷ 12 ∷ 15 ∷ 11 ∷ 4 ∷ 5 ∷ 6 ∷ 6 ∷ 8 ∷ [])
-unfolding consoleAlone consoleOk consoleMode consoleStepped rules.ends next-counted packetBytes packetRead readRefusal headAt headOf
-    value bytesOf isBlank isMessage cells filled lent early line letters among letter lineOf
+unfolding opened
 console-refused = refl

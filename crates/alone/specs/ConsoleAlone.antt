@@ -14,12 +14,12 @@ use Rattle.protocol.specs.Supply.{counted}
 use Rattle.protocol.specs.Letters.{letter}
 use Rattle.protocol.specs.Ends as rules
 use Rattle.protocol.specs.Relabel.{in-console-act}
-use Rattle.letters.specs.Lines.{foundOf}
+use Rattle.letters.specs.Lines.{foundOf, foundRefusal}
 use Rattle.letters.specs.declared.Letter.{Letter}
 use Rattle.letters.specs.declared.Letter.the-variants as letters
 use Rattle.letters.specs.declared.Found.{Found}
 use Rattle.letters.specs.declared.Found.the-variants as found
-use Rattle.ends.specs.Packets.{toControllerPacket, headForConsole}
+use Rattle.ends.specs.Packets.{toControllerPacket, headForConsole, forConsoleRefusal}
 use Rattle.ends.specs.Means.{reportBack}
 use Rattle.ends.specs.Console as console
 use Rattle.ends.specs.Fields.{consoleOk}
@@ -39,7 +39,7 @@ use Rattle.alone.specs.declared.console.ConsoleOutcome.{ConsoleOutcome}
 
 -- a packet in whose kind goes the other way is 15
 abbrev pub consoleTakes : ForConsole → Asked
-consoleTakes for-console.Nothing = Refused 15
+consoleTakes for-console.Nothing = Refused (forConsoleRefusal for-console.Nothing)
 consoleTakes (for-console.Packet p) = Is (act.Take (for-console.Packet p))
 
 abbrev pub consoleHears : ReadHead → Asked
@@ -63,7 +63,7 @@ consoleAsks letters.L p n = Refused 1
 consoleAsks letters.M p n = Refused 1
 
 abbrev pub consoleAsked : Found → ReadHead → ℕ → Asked
-consoleAsked found.Nothing p n = Refused 1
+consoleAsked found.Nothing p n = Refused (foundRefusal found.Nothing)
 consoleAsked (found.Line l) p n = consoleAsks (l .letter) p n
 
 -- ## The promise

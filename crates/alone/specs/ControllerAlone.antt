@@ -15,12 +15,12 @@ use Rattle.protocol.specs.Supply.{counted}
 use Rattle.protocol.specs.Letters.{letter}
 use Rattle.protocol.specs.Ends as rules
 use Rattle.protocol.specs.Relabel.{in-controller-act}
-use Rattle.letters.specs.Lines.{foundOf}
+use Rattle.letters.specs.Lines.{foundOf, foundRefusal}
 use Rattle.letters.specs.declared.Letter.{Letter}
 use Rattle.letters.specs.declared.Letter.the-variants as letters
 use Rattle.letters.specs.declared.Found.{Found}
 use Rattle.letters.specs.declared.Found.the-variants as found
-use Rattle.ends.specs.Packets.{toConsolePacket, headForController}
+use Rattle.ends.specs.Packets.{toConsolePacket, headForController, forControllerRefusal}
 use Rattle.ends.specs.Means.{reportBack}
 use Rattle.ends.specs.Controller as controller
 use Rattle.ends.specs.Fields.{controllerOk}
@@ -41,7 +41,7 @@ use Rattle.alone.specs.declared.controller.ControllerOutcome.{Controller
 
 -- a packet in whose kind goes the other way is 15
 abbrev pub controllerTakes : ForController → Asked
-controllerTakes for-controller.Nothing = Refused 15
+controllerTakes for-controller.Nothing = Refused (forControllerRefusal for-controller.Nothing)
 controllerTakes (for-controller.Packet p) = Is (act.Take (for-controller.Packet p))
 
 abbrev pub controllerHeard : ReadHead → Asked
@@ -75,7 +75,7 @@ controllerAsks letters.L p n = refusing 1
 controllerAsks letters.M p n = refusing 1
 
 abbrev pub controllerAsked : Found → ReadPacket → ℕ → Request
-controllerAsked found.Nothing p n = refusing 1
+controllerAsked found.Nothing p n = refusing (foundRefusal found.Nothing)
 controllerAsked (found.Line l) p n = controllerAsks (l .letter) p n
 
 -- ## The promise

@@ -10,7 +10,6 @@ use ends::console::End;
 use ends::fields::Console;
 use ends::fields::ConsoleRead;
 use ends::fields::console_of;
-use ends::fields::console_was_read;
 use ends::fields::read_console;
 use letters::Found;
 use letters::Letter;
@@ -217,7 +216,10 @@ pub fn step(
     let asked = letter_asks(letter, packet, reply.len());
     let read = read_console(c);
     match asked {
-        Asked::Refused(n) => refused(early(n, console_was_read(read)), c),
+        Asked::Refused(n) => match read {
+            ConsoleRead::IllFormed => refused(early(n, false), c),
+            ConsoleRead::Is(_) => refused(early(n, true), c),
+        },
         Asked::Is(a) => match read {
             ConsoleRead::IllFormed => refused(2, c),
             ConsoleRead::Is(e) => does(c, e, a, message, reply),

@@ -11,7 +11,6 @@ use ends::controller::End;
 use ends::fields::Controller;
 use ends::fields::ControllerRead;
 use ends::fields::controller_of;
-use ends::fields::controller_was_read;
 use ends::fields::read_controller;
 use letters::Found;
 use letters::Letter;
@@ -200,7 +199,10 @@ pub fn step(c: Controller, letter: u8, packet: &[u8], reply: &mut [u8]) -> Contr
     let asked = request.asked;
     let read = read_controller(c);
     match asked {
-        Asked::Refused(n) => refused(early(n, controller_was_read(read)), c),
+        Asked::Refused(n) => match read {
+            ControllerRead::IllFormed => refused(early(n, false), c),
+            ControllerRead::Is(_) => refused(early(n, true), c),
+        },
         Asked::Is(a) => match read {
             ControllerRead::IllFormed => refused(2, c),
             ControllerRead::Is(e) => does(c, e, a, message, reply),

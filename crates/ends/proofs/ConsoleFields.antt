@@ -16,7 +16,7 @@ use Rattle.ends.specs.declared.console.Mode.the-variants.{Idle, NeedI, S
 use Rattle.ends.specs.declared.fields.Console.{Console}
 use Rattle.ends.specs.declared.fields.ConsoleRead.{ConsoleRead}
 use Rattle.ends.specs.declared.fields.ConsoleRead.the-variants.{IllFormed, Is}
-use Rattle.ends.specs.Fields.{consoleOk, consoleMode, consoleRead, consoleWasRead, consoleWith, consoleFields, consoleEnd}
+use Rattle.ends.specs.Fields.{endRefusal, consoleReadRefusal, consoleOk, consoleMode, consoleRead, consoleWasRead, consoleWith, consoleFields, consoleEnd}
 use Rattle.wire.specs.declared.J.{J}
 use Rattle.wire.specs.declared.I.{I}
 use mathlib.Core.List.{List}
@@ -176,6 +176,10 @@ was-read c {e} h =
 pub was-read-so : (c : Console) → consoleWasRead (consoleRead c) ≡ consoleOk c
 unfolding consoleRead if_then_else_
 was-read-so c = by-test (consoleOk c) (λ t. rw t) (λ f. rw f)
+
+pub numbered : {read : ConsoleRead} (c : Console) → read ≡ consoleRead c → (read ≡ consoleRead c) × (consoleReadRefusal read ≡ endRefusal (consoleOk c))
+unfolding consoleRead if_then_else_
+numbered c f = (f, ap consoleReadRefusal f ∙ by-test (consoleOk c) (λ t. rw t) (λ f. rw f))
 
 pub was-ok : {read : ConsoleRead} {b : Bool} (c : Console) → read ≡ consoleRead c → b ≡ consoleWasRead read → b ≡ consoleOk c
 was-ok c f g = g ∙ ap consoleWasRead f ∙ was-read-so c

@@ -14,7 +14,7 @@ use Rattle.ends.specs.declared.controller.Mode.the-variants.{Idle, Accep
 use Rattle.ends.specs.declared.fields.Controller.{Controller}
 use Rattle.ends.specs.declared.fields.ControllerRead.{ControllerRead}
 use Rattle.ends.specs.declared.fields.ControllerRead.the-variants.{IllFormed, Is}
-use Rattle.ends.specs.Fields.{controllerWasRead, controllerOk, controllerMode, controllerEnd, controllerRead, controllerWith, controllerFields}
+use Rattle.ends.specs.Fields.{endRefusal, controllerReadRefusal, controllerWasRead, controllerOk, controllerMode, controllerEnd, controllerRead, controllerWith, controllerFields}
 
 -- the code's test of an i that is set
 pub is-accepting : {p : Bool} (c : Controller) → p ≡ eqb (c .i .0) 0 → not p ≡ true → eqb (c .i .0) 0 ≡ false
@@ -159,6 +159,10 @@ was-read c {e} h =
 pub was-read-so : (c : Controller) → controllerWasRead (controllerRead c) ≡ controllerOk c
 unfolding controllerRead if_then_else_
 was-read-so c = by-test (controllerOk c) (λ t. rw t) (λ f. rw f)
+
+pub numbered : {read : ControllerRead} (c : Controller) → read ≡ controllerRead c → (read ≡ controllerRead c) × (controllerReadRefusal read ≡ endRefusal (controllerOk c))
+unfolding controllerRead if_then_else_
+numbered c f = (f, ap controllerReadRefusal f ∙ by-test (controllerOk c) (λ t. rw t) (λ f. rw f))
 
 pub was-ok : {read : ControllerRead} {b : Bool} (c : Controller) → read ≡ controllerRead c → b ≡ controllerWasRead read → b ≡ controllerOk c
 was-ok c f g = g ∙ ap controllerWasRead f ∙ was-read-so c

@@ -23,14 +23,10 @@ use Rattle.ends.proofs.fields.read_console.Kinds as read-console-kinds
 use Rattle.ends.proofs.fields.read_console.Reads as read-console
 use Rattle.ends.proofs.fields.read_controller.Kinds as read-controller-kinds
 use Rattle.ends.proofs.fields.read_controller.Reads as read-controller
-use Rattle.ends.proofs.fields.console_was_read.Kinds as console-was-read-kinds
-use Rattle.ends.proofs.fields.console_was_read.Reads as console-was-read
 use Rattle.ends.proofs.fields.console_ok.Kinds as console-ok-kinds
 use Rattle.ends.proofs.fields.console_ok.Reads as console-ok
 use Rattle.ends.proofs.fields.console_end.Kinds as console-end-kinds
 use Rattle.ends.proofs.fields.console_end.Reads as console-end
-use Rattle.ends.proofs.fields.controller_was_read.Kinds as controller-was-read-kinds
-use Rattle.ends.proofs.fields.controller_was_read.Reads as controller-was-read
 use Rattle.ends.proofs.fields.controller_ok.Kinds as controller-ok-kinds
 use Rattle.ends.proofs.fields.controller_ok.Reads as controller-ok
 use Rattle.ends.proofs.fields.controller_end.Kinds as controller-end-kinds
@@ -61,22 +57,16 @@ pub controller-refuses-determined : Determined controller-refuses-kinds.ps contr
 controller-refuses-determined κs a x y s t p q = p ∙ sym q
 
 pub read-console-determined : Determined read-console-kinds.ps read-console-kinds.r read-console.Post
-read-console-determined κs a x y s t p q = p ∙ sym q
+read-console-determined κs a x y s t p q = p .0 ∙ sym (q .0)
 
 pub read-controller-determined : Determined read-controller-kinds.ps read-controller-kinds.r read-controller.Post
-read-controller-determined κs a x y s t p q = p ∙ sym q
-
-pub console-was-read-determined : Determined console-was-read-kinds.ps console-was-read-kinds.r console-was-read.Post
-console-was-read-determined κs a x y s t p q = p ∙ sym q
+read-controller-determined κs a x y s t p q = p .0 ∙ sym (q .0)
 
 pub console-ok-determined : Determined console-ok-kinds.ps console-ok-kinds.r console-ok.Post
 console-ok-determined κs a x y s t p q = p ∙ sym q
 
 pub console-end-determined : Determined console-end-kinds.ps console-end-kinds.r console-end.Post
 console-end-determined κs a x y s t p q = p ∙ sym q
-
-pub controller-was-read-determined : Determined controller-was-read-kinds.ps controller-was-read-kinds.r controller-was-read.Post
-controller-was-read-determined κs a x y s t p q = p ∙ sym q
 
 pub controller-ok-determined : Determined controller-ok-kinds.ps controller-ok-kinds.r controller-ok.Post
 controller-ok-determined κs a x y s t p q = p ∙ sym q
@@ -109,10 +99,10 @@ pub to-console-determined : Determined to-console-kinds.ps to-console-kinds.r to
 to-console-determined κs a x y s t p q = p ∙ sym q
 
 pub for-controller-determined : Determined for-controller-kinds.ps for-controller-kinds.r for-controller.Post
-for-controller-determined κs a x y s t p q = p ∙ sym q
+for-controller-determined κs a x y s t p q = p .0 ∙ sym (q .0)
 
 pub for-console-determined : Determined for-console-kinds.ps for-console-kinds.r for-console.Post
-for-console-determined κs a x y s t p q = p ∙ sym q
+for-console-determined κs a x y s t p q = p .0 ∙ sym (q .0)
 
 pub delivers-determined : Determined delivers-kinds.ps delivers-kinds.r delivers.Post
 delivers-determined κs a x y s t p q = p ∙ sym q

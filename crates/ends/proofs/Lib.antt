@@ -12,3 +12,4 @@ pub mod Directions
 pub mod Telling
 pub mod WrongKinds
 pub mod Wrong
+pub mod WrongActs

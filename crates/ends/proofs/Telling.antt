@@ -1,6 +1,6 @@
 -- What is told of an end, with the message beside it.
 use Prim.Native.Nat.{ℕ}
-use mathlib.Core.Path.{_≡_, refl, _∙_}
+use mathlib.Core.Path.{_≡_, refl, sym, ap, subst, _∙_}
 use mathlib.Core.Bool.{Bool, true}
 use mathlib.Core.List.{List}
 use lib.ListN.{length}
@@ -11,6 +11,8 @@ use Rattle.ends.specs.Console.{modeBack, end}
 use Rattle.ends.specs.Controller as controller
 use Rattle.ends.specs.Fields.{consoleOk, consoleEnd, consoleWith, controllerOk, controllerEnd, controllerWith}
 use Rattle.ends.specs.InRules.{consoleMeans, consoleBack, controllerMeans, controllerBack, delivered, deliveredBeside}
+use Rattle.ends.specs.declared.Report.{Report}
+use Rattle.ends.specs.declared.Report.the-variants as report
 use Rattle.ends.specs.declared.console.Mode.{Mode}
 use Rattle.ends.specs.declared.console.Mode.the-variants.{Idle, NeedI, Send}
 use Rattle.ends.specs.declared.fields.Console.{Console}
@@ -27,6 +29,39 @@ report-told k (rules.delivered m) = refl
 report-told k rules.answered-ok = refl
 report-told k rules.answered-lost = refl
 report-told k (rules.refused n) = refl
+
+-- ## Refusals
+
+abbrev pub number : Report → ℕ
+number report.Nothing = 0
+number report.Delivered = 0
+number report.Ok = 0
+number report.Lost = 0
+number (report.Refused n) = n
+
+abbrev pub IsRefused : Report → Type 0
+IsRefused report.Nothing = ⊥
+IsRefused report.Delivered = ⊥
+IsRefused report.Ok = ⊥
+IsRefused report.Lost = ⊥
+IsRefused (report.Refused n) = Unit {0}
+
+pub its-number : (r : Report) → IsRefused r → r ≡ report.Refused (number r)
+its-number report.Nothing h = absurd h
+its-number report.Delivered h = absurd h
+its-number report.Ok h = absurd h
+its-number report.Lost h = absurd h
+its-number (report.Refused n) h = refl
+
+-- the rules refused with the same number
+pub refused-in-rules : (r : rules.Report (List ℕ)) (n : ℕ) → reportBack r ≡ report.Refused n → r ≡ rules.refused n
+refused-in-rules rules.nothing n e = absurd (subst IsRefused (sym e) tt)
+refused-in-rules (rules.delivered m) n e = absurd (subst IsRefused (sym e) tt)
+refused-in-rules rules.answered-ok n e = absurd (subst IsRefused (sym e) tt)
+refused-in-rules rules.answered-lost n e = absurd (subst IsRefused (sym e) tt)
+refused-in-rules (rules.refused k) n e = ap rules.refused (ap number e)
+
+-- ## Messages and fields
 
 -- the message that is told
 pub delivered-told : (k : List ℕ) (r : rules.Report Beside) → deliveredBeside (reportBack r) k ≡ delivered (in-report (λ _. k) r)

@@ -17,8 +17,8 @@ use Rattle.protocol.specs.Supply.{counted}
 use Rattle.protocol.specs.Ends.{ends, controller-rules}
 use Rattle.protocol.specs.Relabel.{in-packet}
 use Rattle.ends.specs.Controller.{end, act}
-use Rattle.ends.specs.Fields.{consoleOk, consoleMode, consoleEnd, consoleRead, consoleWasRead, consoleFields, freshConsole, downedConsole}
-use Rattle.ends.specs.Fields.{controllerOk, controllerMode, controllerEnd, controllerRead, controllerWasRead, controllerFields, freshController, downedController}
+use Rattle.ends.specs.Fields.{endRefusal, consoleOk, consoleMode, consoleEnd, consoleReadRefusal, consoleFields, freshConsole, downedConsole}
+use Rattle.ends.specs.Fields.{controllerOk, controllerMode, controllerEnd, controllerReadRefusal, controllerFields, freshController, downedController}
 use Rattle.ends.specs.InRules.{deliveredBeside}
 use Rattle.ends.specs.Means.{toController, toConsole}
 use Rattle.ends.specs.Packets.{toControllerPacket, toConsolePacket}
@@ -33,9 +33,7 @@ use Rattle.ends.specs.declared.controller.Act.the-variants.{Take}
 use Rattle.ends.specs.declared.controller.Mode.the-variants as controller-mode
 use Rattle.ends.specs.declared.controller.End as controller
 use Rattle.ends.specs.declared.fields.Console.{Console}
-use Rattle.ends.specs.declared.fields.ConsoleRead.the-variants as console-read
 use Rattle.ends.specs.declared.fields.Controller.{Controller}
-use Rattle.ends.specs.declared.fields.ControllerRead.the-variants as controller-read
 use Rattle.ends.proofs.beside.to_controller.Kinds as to-controller-kinds
 use Rattle.ends.proofs.beside.to_controller.Reads as to-controller
 use Rattle.ends.proofs.beside.to_console.Kinds as to-console-kinds
@@ -46,8 +44,6 @@ use Rattle.ends.proofs.controller.refuses.Kinds as controller-refuses-k
 use Rattle.ends.proofs.controller.refuses.Reads as controller-refuses
 use Rattle.ends.proofs.fields.read_console.Kinds as read-console-kinds
 use Rattle.ends.proofs.fields.read_console.Reads as read-console
-use Rattle.ends.proofs.fields.console_was_read.Kinds as console-was-read-kinds
-use Rattle.ends.proofs.fields.console_was_read.Reads as console-was-read
 use Rattle.ends.proofs.fields.console_ok.Kinds as console-ok-kinds
 use Rattle.ends.proofs.fields.console_ok.Reads as console-ok
 use Rattle.ends.proofs.fields.console_end.Kinds as console-end-kinds
@@ -60,8 +56,6 @@ use Rattle.ends.proofs.fields.downed_console.Kinds as downed-console-ki
 use Rattle.ends.proofs.fields.downed_console.Reads as downed-console
 use Rattle.ends.proofs.fields.read_controller.Kinds as read-controller-kinds
 use Rattle.ends.proofs.fields.read_controller.Reads as read-controller
-use Rattle.ends.proofs.fields.controller_was_read.Kinds as controller-was-read-kinds
-use Rattle.ends.proofs.fields.controller_was_read.Reads as controller-was-read
 use Rattle.ends.proofs.fields.controller_ok.Kinds as controller-ok-kinds
 use Rattle.ends.proofs.fields.controller_ok.Reads as controller-ok
 use Rattle.ends.proofs.fields.controller_end.Kinds as controller-end-kinds
@@ -104,19 +98,13 @@ console-fields used held m j last up =
 abbrev idle-console : ℕ → console.End
 idle-console used = record { used = record { 0 = used }; mode = console-mode.Idle; up = true }
 
-pub takes-j-and-last : RulesOut read-console-kinds.ps read-console-kinds.r read-console.Post (λ κs a. a .0 ≡ console-fields 1 true spaces 1 1 true) (λ κs a x s. consoleWasRead x ≡ true)
-unfolding consoleRead consoleOk isMessage cells filled if_then_else_
-takes-j-and-last κs a x s e w p = true≢false (sym w ∙ ap consoleWasRead (p ∙ ap consoleRead e))
+pub takes-j-and-last : RulesOut read-console-kinds.ps read-console-kinds.r read-console.Post (λ κs a. a .0 ≡ console-fields 1 true spaces 1 1 true) (λ κs a x s. consoleReadRefusal x ≡ 0)
+unfolding consoleOk isMessage cells filled if_then_else_
+takes-j-and-last κs a x s e w p = unequal (sym w ∙ p .1 ∙ ap (λ c. endRefusal (consoleOk c)) e) refl
 
-pub takes-j-above-last-used : RulesOut read-console-kinds.ps read-console-kinds.r read-console.Post (λ κs a. a .0 ≡ console-fields 0 true spaces 1 0 true) (λ κs a x s. consoleWasRead x ≡ true)
-unfolding consoleRead consoleOk isMessage cells filled if_then_else_
-takes-j-above-last-used κs a x s e w p = true≢false (sym w ∙ ap consoleWasRead (p ∙ ap consoleRead e))
-
-pub console-always-read : RulesOut console-was-read-kinds.ps console-was-read-kinds.r console-was-read.Post (λ κs a. a .0 ≡ console-read.IllFormed) (λ κs a x s. x ≡ true)
-console-always-read κs a x s e w p = true≢false (sym w ∙ p ∙ ap consoleWasRead e)
-
-pub console-never-read : RulesOut console-was-read-kinds.ps console-was-read-kinds.r console-was-read.Post (λ κs a. a .0 ≡ console-read.Is (idle-console 0)) (λ κs a x s. x ≡ false)
-console-never-read κs a x s e w p = false≢true (sym w ∙ p ∙ ap consoleWasRead e)
+pub takes-j-above-last-used : RulesOut read-console-kinds.ps read-console-kinds.r read-console.Post (λ κs a. a .0 ≡ console-fields 0 true spaces 1 0 true) (λ κs a x s. consoleReadRefusal x ≡ 0)
+unfolding consoleOk isMessage cells filled if_then_else_
+takes-j-above-last-used κs a x s e w p = unequal (sym w ∙ p .1 ∙ ap (λ c. endRefusal (consoleOk c)) e) refl
 
 pub takes-a-row-that-is-not-held : RulesOut console-ok-kinds.ps console-ok-kinds.r console-ok.Post (λ κs a. a .0 ≡ console-fields 0 false row 0 0 true) (λ κs a x s. x ≡ true)
 unfolding consoleOk isMessage cells filled if_then_else_
@@ -157,19 +145,13 @@ abbrev controller-fields : ℕ → ℕ → ℕ → ℕ → Bool → Controller
 controller-fields used j i last up =
     record { used = record { 0 = used }; j = record { 0 = j }; i = record { 0 = i }; last = record { 0 = last }; up = up }
 
-pub takes-j-without-i : RulesOut read-controller-kinds.ps read-controller-kinds.r read-controller.Post (λ κs a. a .0 ≡ controller-fields 1 1 0 0 true) (λ κs a x s. controllerWasRead x ≡ true)
-unfolding controllerRead controllerOk if_then_else_
-takes-j-without-i κs a x s e w p = true≢false (sym w ∙ ap controllerWasRead (p ∙ ap controllerRead e))
+pub takes-j-without-i : RulesOut read-controller-kinds.ps read-controller-kinds.r read-controller.Post (λ κs a. a .0 ≡ controller-fields 1 1 0 0 true) (λ κs a x s. controllerReadRefusal x ≡ 0)
+unfolding controllerOk if_then_else_
+takes-j-without-i κs a x s e w p = unequal (sym w ∙ p .1 ∙ ap (λ c. endRefusal (controllerOk c)) e) refl
 
-pub takes-i-and-last : RulesOut read-controller-kinds.ps read-controller-kinds.r read-controller.Post (λ κs a. a .0 ≡ controller-fields 1 1 1 1 true) (λ κs a x s. controllerWasRead x ≡ true)
-unfolding controllerRead controllerOk if_then_else_
-takes-i-and-last κs a x s e w p = true≢false (sym w ∙ ap controllerWasRead (p ∙ ap controllerRead e))
-
-pub controller-always-read : RulesOut controller-was-read-kinds.ps controller-was-read-kinds.r controller-was-read.Post (λ κs a. a .0 ≡ controller-read.IllFormed) (λ κs a x s. x ≡ true)
-controller-always-read κs a x s e w p = true≢false (sym w ∙ p ∙ ap controllerWasRead e)
-
-pub controller-never-read : RulesOut controller-was-read-kinds.ps controller-was-read-kinds.r controller-was-read.Post (λ κs a. a .0 ≡ controller-read.Is (third true)) (λ κs a x s. x ≡ false)
-controller-never-read κs a x s e w p = false≢true (sym w ∙ p ∙ ap controllerWasRead e)
+pub takes-i-and-last : RulesOut read-controller-kinds.ps read-controller-kinds.r read-controller.Post (λ κs a. a .0 ≡ controller-fields 1 1 1 1 true) (λ κs a x s. controllerReadRefusal x ≡ 0)
+unfolding controllerOk if_then_else_
+takes-i-and-last κs a x s e w p = unequal (sym w ∙ p .1 ∙ ap (λ c. endRefusal (controllerOk c)) e) refl
 
 pub takes-i-above-last-used : RulesOut controller-ok-kinds.ps controller-ok-kinds.r controller-ok.Post (λ κs a. a .0 ≡ controller-fields 0 1 1 0 true) (λ κs a x s. x ≡ true)
 unfolding controllerOk if_then_else_
@@ -217,6 +199,9 @@ ok-for-lost κs a x s e w p = let q : head.Ok (record { 0 = 1 }) ≡ head.Lost (
 
 pub spaces-for-zeros : RulesOut to-console-kinds.ps to-console-kinds.r to-console.Post (λ κs a. a .0 ≡ down.Lost (record { 0 = 1 })) (λ κs a x s. x .message ≡ spaces)
 spaces-for-zeros κs a x s e w p = unequal (ap (λ (m : List ℕ). getD m 0 0) (sym w ∙ ap (λ (q : Packet). q .message) (p ∙ ap (λ l. toConsolePacket (toConsole l)) e))) refl
+
+pub message-told-with-no-delivery : RulesOut delivers-kinds.ps delivers-kinds.r delivers.Post (λ κs a. (a .0 ≡ report.Nothing) × (a .1 .0 ≡ row)) (λ κs a x s. x ≡ a .1 .0)
+message-told-with-no-delivery κs a x s e w p = unequal (ap (λ (m : List ℕ). getD m 0 0) (sym (e .1) ∙ sym w ∙ p ∙ (λ i. deliveredBeside (e .0 i) (e .1 i)))) refl
 
 pub spaces-with-a-delivery : RulesOut delivers-kinds.ps delivers-kinds.r delivers.Post (λ κs a. (a .0 ≡ report.Delivered) × (a .1 .0 ≡ row)) (λ κs a x s. x ≡ spaces)
 spaces-with-a-delivery κs a x s e w p = unequal (ap (λ (m : List ℕ). getD m 0 0) (sym w ∙ p ∙ (λ i. deliveredBeside (e .0 i) (e .1 i)))) refl

@@ -27,10 +27,10 @@ none-or-one p e = let z : _≡_ {A = ℕ} 0 1 = cc in omega (arith, z)
 
 module _ (κs : Lfts 0) (a : Dens κs for-controller-kinds.ps) (x : ForController) (s : AtExit (endedOf 0 for-controller-kinds.ps for-controller-kinds.r) κs) (meets : for-controller-reads.Post κs a x s) where
   pub controller-takes-every-kind : (i : I) (p : ToController) → a .0 ≡ Ok i → x ≡ for-controller.Packet p → ⊥
-  controller-takes-every-kind i p h e = none-or-one p (sym (meets ∙ ap headForController h) ∙ e)
+  controller-takes-every-kind i p h e = none-or-one p (sym (meets .0 ∙ ap headForController h) ∙ e)
 
   pub controller-takes-no-kind : (j : J) → a .0 ≡ NeedI j → x ≡ for-controller.Nothing → ⊥
-  controller-takes-no-kind j h e = none-or-one _ (sym e ∙ meets ∙ ap headForController h)
+  controller-takes-no-kind j h e = none-or-one _ (sym e ∙ meets .0 ∙ ap headForController h)
 
 -- ## For the console
 
@@ -39,7 +39,7 @@ nothing-or-one p e = let z : _≡_ {A = ℕ} 0 1 = cc in omega (arith, z)
 
 module _ (κs : Lfts 0) (a : Dens κs for-console-kinds.ps) (x : ForConsole) (s : AtExit (endedOf 0 for-console-kinds.ps for-console-kinds.r) κs) (meets : for-console-reads.Post κs a x s) where
   pub console-takes-every-kind : (j : J) (p : ToConsole) → a .0 ≡ NeedI j → x ≡ for-console.Packet p → ⊥
-  console-takes-every-kind j p h e = nothing-or-one p (sym (meets ∙ ap headForConsole h) ∙ e)
+  console-takes-every-kind j p h e = nothing-or-one p (sym (meets .0 ∙ ap headForConsole h) ∙ e)
 
   pub console-takes-no-kind : (i : I) → a .0 ≡ Ok i → x ≡ for-console.Nothing → ⊥
-  console-takes-no-kind i h e = nothing-or-one _ (sym e ∙ meets ∙ ap headForConsole h)
+  console-takes-no-kind i h e = nothing-or-one _ (sym e ∙ meets .0 ∙ ap headForConsole h)

@@ -21,6 +21,11 @@ use Rattle.ends.specs.declared.fields.Controller.{Controller}
 use Rattle.ends.specs.declared.fields.ControllerRead.{ControllerRead}
 use Rattle.ends.specs.declared.fields.ControllerRead.the-variants as controller-read
 
+-- an end that is not well formed is 2
+abbrev pub endRefusal : Bool → ℕ
+endRefusal true = 0
+endRefusal false = 2
+
 -- ## The console
 
 -- with a message held exactly one of j and last is not 0; with none both are 0 and the message is 16 spaces. j is at most last used J
@@ -39,6 +44,11 @@ consoleEnd c = record { used = c .used; mode = consoleMode c; up = c .up }
 
 unfoldable pub consoleRead : Console → ConsoleRead
 consoleRead c = if consoleOk c then console-read.Is (consoleEnd c) else console-read.IllFormed
+
+-- document 01's number of each case
+abbrev pub consoleReadRefusal : ConsoleRead → ℕ
+consoleReadRefusal console-read.IllFormed = 2
+consoleReadRefusal (console-read.Is e) = 0
 
 abbrev pub consoleWasRead : ConsoleRead → Bool
 consoleWasRead console-read.IllFormed = false
@@ -78,6 +88,11 @@ controllerEnd c = record { used = c .used; mode = controllerMode c; up = c .up }
 
 unfoldable pub controllerRead : Controller → ControllerRead
 controllerRead c = if controllerOk c then controller-read.Is (controllerEnd c) else controller-read.IllFormed
+
+-- document 01's number of each case
+abbrev pub controllerReadRefusal : ControllerRead → ℕ
+controllerReadRefusal controller-read.IllFormed = 2
+controllerReadRefusal (controller-read.Is e) = 0
 
 abbrev pub controllerWasRead : ControllerRead → Bool
 controllerWasRead controller-read.IllFormed = false

@@ -3,6 +3,8 @@ use Prim.Native.Nat.{ℕ}
 use mathlib.Core.List.{List}
 use mathlib.Core.Option.{Option, Option·map}
 use lib.ListN.{replicate}
+use Rattle.wire.specs.declared.Direction.{Direction}
+use Rattle.wire.specs.declared.Direction.the-variants as direction
 use Rattle.wire.specs.declared.Head.{Head}
 use Rattle.wire.specs.declared.Head.the-variants.{NeedI, Offer, Data, Ok, Lost, Done}
 use Rattle.wire.specs.declared.ReadHead.{ReadHead}
@@ -58,6 +60,24 @@ headForConsole (Data i) = for-console.Nothing
 headForConsole (Ok i) = for-console.Packet (down.Ok i)
 headForConsole (Lost i) = for-console.Packet (down.Lost i)
 headForConsole (Done i) = for-console.Nothing
+
+-- a kind that goes the other way is 15
+abbrev pub controllerWayRefusal : Direction → ℕ
+controllerWayRefusal direction.ToController = 0
+controllerWayRefusal direction.ToConsole = 15
+
+abbrev pub consoleWayRefusal : Direction → ℕ
+consoleWayRefusal direction.ToController = 15
+consoleWayRefusal direction.ToConsole = 0
+
+-- document 01's number of each case, of a packet in
+abbrev pub forControllerRefusal : ForController → ℕ
+forControllerRefusal for-controller.Nothing = 15
+forControllerRefusal (for-controller.Packet p) = 0
+
+abbrev pub forConsoleRefusal : ForConsole → ℕ
+forConsoleRefusal for-console.Nothing = 15
+forConsoleRefusal (for-console.Packet p) = 0
 
 -- nor is a head that was not read
 abbrev pub readForController : ReadHead → ForController

@@ -246,7 +246,7 @@ fn comes_back(e: End) -> Acted
     stays(after, ForController::Nothing)
 }
 
-// What a console does that does not refuse.
+// What a console does that does not refuse. No entry: it tests nothing, and carries out what the rules refuse; whoever calls it asks `refuses` first.
 pub fn acts(e: End, asked: Act) -> Acted
     ensures { λ r. ⌜ r ≡ acted (console-acts counted (end e) (act asked)) ⌝ }
 {

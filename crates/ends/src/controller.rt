@@ -237,7 +237,7 @@ fn comes_back(e: End) -> Acted
     stays(after, ForConsole::Nothing)
 }
 
-// What a controller does that does not refuse.
+// What a controller does that does not refuse. No entry: it tests nothing, and carries out what the rules refuse; whoever calls it asks `refuses` first.
 pub fn acts(e: End, asked: Act) -> Acted
     ensures { λ r. ⌜ r ≡ acted (controller-acts counted (end e) (act asked)) ⌝ }
 {
@@ -286,7 +286,7 @@ fn take_refusal(e: End, p: ForController) -> u8
     }
 }
 
-// The first refusal that applies, or 0.
+// The first refusal of the rules that applies, or 0.
 pub fn refuses(e: End, asked: Act) -> u8
     ensures { λ r. ⌜ r ≡ refusal (controller-rules counted (end e) (act asked)) ⌝ }
 {

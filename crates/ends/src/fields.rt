@@ -10,8 +10,8 @@ use wire::J;
 ghost use mathlib.Core.Path.{_≡_};
 ghost use mathlib.Core.Bool.{true, false};
 ghost use lib.Dec.{eqb};
-ghost use Rattle.ends.specs.Fields.{consoleOk, consoleRead, consoleWasRead, consoleEnd, consoleFields, freshConsole, downedConsole};
-ghost use Rattle.ends.specs.Fields.{controllerOk, controllerRead, controllerWasRead, controllerEnd, controllerFields, freshController, downedController};
+ghost use Rattle.ends.specs.Fields.{endRefusal, consoleOk, consoleRead, consoleReadRefusal, consoleWasRead, consoleEnd, consoleFields, freshConsole, downedConsole};
+ghost use Rattle.ends.specs.Fields.{controllerOk, controllerRead, controllerReadRefusal, controllerWasRead, controllerEnd, controllerFields, freshController, downedController};
 
 pub struct Console {
     pub used: J,
@@ -77,9 +77,9 @@ fn read_idle(c: Console) -> ConsoleRead
     console_is(c, console::Mode::Idle)
 }
 
-// A console's end, where its fields are well formed.
+// A console's end, where its fields are well formed; IllFormed is refusal 2.
 pub fn read_console(c: Console) -> ConsoleRead
-    ensures { λ r. ⌜ r ≡ consoleRead c ⌝ }
+    ensures { λ r. ⌜ (r ≡ consoleRead c) × (consoleReadRefusal r ≡ endRefusal (consoleOk c)) ⌝ }
 {
     if c.held {
         read_holding(c)
@@ -88,7 +88,7 @@ pub fn read_console(c: Console) -> ConsoleRead
     }
 }
 
-pub fn console_was_read(read: ConsoleRead) -> bool
+fn console_was_read(read: ConsoleRead) -> bool
     ensures { λ r. ⌜ r ≡ consoleWasRead read ⌝ }
 {
     match read {
@@ -237,9 +237,9 @@ fn read_accepting(c: Controller) -> ControllerRead
     controller_is(c, controller::Mode::Accept(j, i))
 }
 
-// A controller's end, where its fields are well formed.
+// A controller's end, where its fields are well formed; IllFormed is refusal 2.
 pub fn read_controller(c: Controller) -> ControllerRead
-    ensures { λ r. ⌜ r ≡ controllerRead c ⌝ }
+    ensures { λ r. ⌜ (r ≡ controllerRead c) × (controllerReadRefusal r ≡ endRefusal (controllerOk c)) ⌝ }
 {
     let last = c.last;
     if !no_i(c.i) {
@@ -257,7 +257,7 @@ pub fn read_controller(c: Controller) -> ControllerRead
     controller_is(c, controller::Mode::Ack(last))
 }
 
-pub fn controller_was_read(read: ControllerRead) -> bool
+fn controller_was_read(read: ControllerRead) -> bool
     ensures { λ r. ⌜ r ≡ controllerWasRead read ⌝ }
 {
     match read {

@@ -1,7 +1,8 @@
 -- The table of letters at a place, and the byte that is no letter. The code's table is the rules' letters, each with its line: `map lineOf letters`.
 use Prim.Native.Nat.{ℕ, zero, suc, _<_}
-use mathlib.Core.Path.{_≡_, refl, sym}
+use mathlib.Core.Path.{_≡_, refl, sym, ap, _∙_}
 use mathlib.Core.Bool.{false}
+use mathlib.Core.Option.{Option, none, some}
 use mathlib.Core.List.{List, [], _∷_, map}
 use native.Mathlib.Nat.{le-of-suc-le-suc, not-suc-le-zero}
 use borrow.Author.Tests.{ne-eqb}
@@ -9,9 +10,10 @@ use lib.ListN.{length, getD}
 use Rattle.ground.specs.Choice.{if_then_else_}
 use Rattle.protocol.specs.Bench.{at}
 use Rattle.protocol.specs.Letters.{Letter, line, letters, among, letter}
-use Rattle.letters.specs.Lines.{lineOf, foundOf, foundAt}
+use Rattle.letters.specs.Lines.{lineOf, foundOf, foundRefusal, letterRefusal, foundAt}
 use Rattle.letters.specs.declared.Letter.the-variants.{P}
 use Rattle.letters.specs.declared.Line.{Line}
+use Rattle.letters.specs.declared.Found.{Found}
 use Rattle.letters.specs.declared.Found.the-variants as found
 
 -- over any list
@@ -29,12 +31,23 @@ pub at-line : (k : ℕ) → k < 13 → found.Line (getD (map lineOf letters) k n
 unfolding letters foundAt
 at-line k h = line-of letters k no-line h
 
+-- what is found, with document 01's number of it
+abbrev Numbered : Found → Option Letter → Type 0
+Numbered r l = (r ≡ foundOf l) × (foundRefusal r ≡ letterRefusal l)
+
+numbered : {r : Found} (l : Option Letter) → r ≡ foundOf l → Numbered r l
+numbered none e = (e, ap foundRefusal e)
+numbered (some l) e = (e, ap foundRefusal e)
+
+pub keyed : {b k : ℕ} {r x : Found} → b ≡ k → r ≡ x → x ≡ foundOf (letter k) → Numbered r (letter b)
+keyed {b} e f g = numbered (letter b) (f ∙ g ∙ ap (λ n. foundOf (letter n)) (sym e))
+
 -- a byte that is none of the thirteen
 pub no-letter : (b : ℕ) → (b ≡ 0x50 → ⊥) → (b ≡ 0x51 → ⊥) → (b ≡ 0x44 → ⊥) → (b ≡ 0x53 → ⊥) → (b ≡ 0x43 → ⊥) → (b ≡ 0x56 → ⊥) → (b ≡ 0x4F → ⊥) → (b ≡ 0x4B → ⊥)
-    → (b ≡ 0x52 → ⊥) → (b ≡ 0x58 → ⊥) → (b ≡ 0x59 → ⊥) → (b ≡ 0x4C → ⊥) → (b ≡ 0x4D → ⊥) → found.Nothing ≡ foundOf (letter b)
+    → (b ≡ 0x52 → ⊥) → (b ≡ 0x58 → ⊥) → (b ≡ 0x59 → ⊥) → (b ≡ 0x4C → ⊥) → (b ≡ 0x4D → ⊥) → Numbered found.Nothing (letter b)
 unfolding letter letters line among if_then_else_
 no-letter b p q d s c v o k r x y l m =
-    rw (
+    numbered (letter b) (rw (
       ne-eqb 0x50 b (λ e. p (sym e)),
       ne-eqb 0x51 b (λ e. q (sym e)),
       ne-eqb 0x44 b (λ e. d (sym e)),
@@ -48,4 +61,4 @@ no-letter b p q d s c v o k r x y l m =
       ne-eqb 0x59 b (λ e. y (sym e)),
       ne-eqb 0x4C b (λ e. l (sym e)),
       ne-eqb 0x4D b (λ e. m (sym e)),
-    )
+    ))

@@ -53,6 +53,16 @@ abbrev pub foundOf : Option rules.Letter → Found
 foundOf none = found.Nothing
 foundOf (some l) = found.Line (lineOf l)
 
+-- a letter that is no action is 1
+abbrev pub letterRefusal : Option rules.Letter → ℕ
+letterRefusal none = 1
+letterRefusal (some l) = 0
+
+-- document 01's number of each case
+abbrev pub foundRefusal : Found → ℕ
+foundRefusal found.Nothing = 1
+foundRefusal (found.Line l) = 0
+
 -- the line at a place of the table
 unfoldable pub foundAt : ℕ → Found
 foundAt k = foundOf (at rules.letters k)

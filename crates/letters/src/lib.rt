@@ -2,7 +2,7 @@
 ghost use Prim.Native.Nat.{_<_};
 ghost use mathlib.Core.Path.{_≡_};
 ghost use Rattle.protocol.specs.Letters.{letter};
-ghost use Rattle.letters.specs.Lines.{foundOf, foundAt};
+ghost use Rattle.letters.specs.Lines.{foundOf, foundRefusal, letterRefusal, foundAt};
 
 pub enum Letter {
     P,
@@ -34,7 +34,7 @@ pub enum Found {
     Nothing,
 }
 
-pub const LINES: [Line; 13] = [
+const LINES: [Line; 13] = [
     Line {
         byte: b'P',
         letter: Letter::P,
@@ -136,9 +136,9 @@ fn line_at(k: usize) -> Found
     Found::Line(LINES[k])
 }
 
-// The line of a byte; Nothing: no action has this letter.
+// The line of a byte; Nothing is refusal 1: no action has this letter.
 pub fn find(byte: u8) -> Found
-    ensures { λ r. ⌜ r ≡ foundOf (letter byte) ⌝ }
+    ensures { λ r. ⌜ (r ≡ foundOf (letter byte)) × (foundRefusal r ≡ letterRefusal (letter byte)) ⌝ }
 {
     match byte {
         b'P' => line_at(0),

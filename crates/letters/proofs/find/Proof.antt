@@ -1,9 +1,10 @@
+use mathlib.Core.Path.{refl}
 use borrow.Author.Needs.{needs}
 use Rattle.ground.specs.Choice.{if_then_else_}
 use Rattle.protocol.specs.Bench.{at}
 use Rattle.protocol.specs.Letters.{line, letters, among, letter}
 use Rattle.letters.specs.Lines.{foundAt}
-use Rattle.letters.proofs.Scan.{no-letter}
+use Rattle.letters.proofs.Scan.{keyed, no-letter}
 use Rattle.letters.proofs.find.Statement.{statement}
 use Rattle.letters.proofs.find.Tie as tie
 
@@ -25,17 +26,17 @@ find-spec =
     (λ c κs. search needs)
     (λ c κs. search needs)
     (λ c κs. search needs)
-    (λ c. rw (c .before .match .keys1) (c .line-at .ensures))
-    (λ c. rw (c .before .match .keys2) (c .line-at2 .ensures))
-    (λ c. rw (c .before .match .keys3) (c .line-at3 .ensures))
-    (λ c. rw (c .before .match .keys4) (c .line-at4 .ensures))
-    (λ c. rw (c .before .match .keys5) (c .line-at5 .ensures))
-    (λ c. rw (c .before .match .keys6) (c .line-at6 .ensures))
-    (λ c. rw (c .before .match .keys7) (c .line-at7 .ensures))
-    (λ c. rw (c .before .match .keys8) (c .line-at8 .ensures))
-    (λ c. rw (c .before .match .keys9) (c .line-at9 .ensures))
-    (λ c. rw (c .before .match .keys10) (c .line-at10 .ensures))
-    (λ c. rw (c .before .match .keys11) (c .line-at11 .ensures))
-    (λ c. rw (c .before .match .keys12) (c .line-at12 .ensures))
-    (λ c. rw (c .before .match .keys13) (c .line-at13 .ensures))
+    (λ c. keyed (c .before .match .keys1) (c .line-at .ensures) refl)
+    (λ c. keyed (c .before .match .keys2) (c .line-at2 .ensures) refl)
+    (λ c. keyed (c .before .match .keys3) (c .line-at3 .ensures) refl)
+    (λ c. keyed (c .before .match .keys4) (c .line-at4 .ensures) refl)
+    (λ c. keyed (c .before .match .keys5) (c .line-at5 .ensures) refl)
+    (λ c. keyed (c .before .match .keys6) (c .line-at6 .ensures) refl)
+    (λ c. keyed (c .before .match .keys7) (c .line-at7 .ensures) refl)
+    (λ c. keyed (c .before .match .keys8) (c .line-at8 .ensures) refl)
+    (λ c. keyed (c .before .match .keys9) (c .line-at9 .ensures) refl)
+    (λ c. keyed (c .before .match .keys10) (c .line-at10 .ensures) refl)
+    (λ c. keyed (c .before .match .keys11) (c .line-at11 .ensures) refl)
+    (λ c. keyed (c .before .match .keys12) (c .line-at12 .ensures) refl)
+    (λ c. keyed (c .before .match .keys13) (c .line-at13 .ensures) refl)
     (λ c. no-letter _ (c .match .rest .0 .0 .0 .0 .0 .0 .0 .0 .0 .0 .0 .0 .1) (c .match .rest .0 .0 .0 .0 .0 .0 .0 .0 .0 .0 .0 .1) (c .match .rest .0 .0 .0 .0 .0 .0 .0 .0 .0 .0 .1) (c .match .rest .0 .0 .0 .0 .0 .0 .0 .0 .0 .1) (c .match .rest .0 .0 .0 .0 .0 .0 .0 .0 .1) (c .match .rest .0 .0 .0 .0 .0 .0 .0 .1) (c .match .rest .0 .0 .0 .0 .0 .0 .1) (c .match .rest .0 .0 .0 .0 .0 .1) (c .match .rest .0 .0 .0 .0 .1) (c .match .rest .0 .0 .0 .1) (c .match .rest .0 .0 .1) (c .match .rest .0 .1) (c .match .rest .1)))

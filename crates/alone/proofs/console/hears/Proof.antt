@@ -12,4 +12,4 @@ hears-spec =
     (λ c κs. search needs)
     (λ c κs. search needs)
     (λ c. rw (← c .before .before .before .read-head .ensures, c .before .head .given .1))
-    (λ c. rw (← c .before .before .before .before .before .read-head .ensures, c .before .before .before .head2 .given .1, ← c .before .for-console .ensures) (c .takes .ensures)))
+    (λ c. rw (← c .before .before .before .before .before .read-head .ensures, c .before .before .before .head2 .given .1, ← c .before .for-console .ensures .0) (c .takes .ensures)))

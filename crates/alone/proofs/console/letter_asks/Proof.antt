@@ -10,5 +10,5 @@ letter-asks-spec =
     (λ c. search needs)
     (λ c. search needs)
     (λ c κs. search needs)
-    (λ c. rw (← c .before .before .find .ensures, c .enum-told .given .1))
-    (λ c. rw (← c .before .before .before .before .find .ensures, c .before .before .line .given .1) (c .asks .ensures)))
+    (λ c. rw (← c .before .before .find .ensures .0, c .enum-told .given .1))
+    (λ c. rw (← c .before .before .before .before .find .ensures .0, c .before .before .line .given .1) (c .asks .ensures)))

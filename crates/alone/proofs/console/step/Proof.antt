@@ -1,6 +1,6 @@
 use borrow.Author.Needs.{needs}
 use Rattle.alone.proofs.ConsoleAsking.{ready}
-use Rattle.alone.proofs.ConsoleAlone.{alone-refused, alone-ill, alone-does, read-as}
+use Rattle.alone.proofs.ConsoleAlone.{refused-ill, refused-well, alone-ill, alone-does, read-as}
 use Rattle.alone.proofs.console.step.Statement.{statement}
 use Rattle.alone.proofs.console.step.Tie as tie
 
@@ -11,7 +11,10 @@ step-spec =
     (λ c κs. search needs)
     (λ c κs. search needs)
     (λ c. search needs)
+    (λ c. search needs)
     (λ c κs. search needs)
+    (λ c κs. search needs)
+    (λ c. search needs)
     (λ c κs. search needs)
     (λ c κs. search needs)
     (λ c. search needs)
@@ -19,7 +22,8 @@ step-spec =
     (λ c κs. search needs)
     (λ c. search needs)
     (λ c κs. (search read-as, search ready))
-    (λ c. search alone-refused)
+    (λ c. search refused-ill)
+    (λ c. search refused-well)
     (λ c. search alone-ill)
     (λ c. search needs)
     (λ c. search alone-does))

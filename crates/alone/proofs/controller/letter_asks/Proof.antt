@@ -11,5 +11,5 @@ letter-asks-spec =
     (λ c κs. search needs)
     (λ c. search needs)
     (λ c κs. search needs)
-    (λ c. rw (← c .before .before .before .find .ensures, c .before .enum-told .given .1) (c .bare .ensures))
-    (λ c. rw (← c .before .before .before .before .find .ensures, c .before .before .line .given .1) (c .asks .ensures)))
+    (λ c. rw (← c .before .before .before .find .ensures .0, c .before .enum-told .given .1) (c .bare .ensures))
+    (λ c. rw (← c .before .before .before .before .find .ensures .0, c .before .before .line .given .1) (c .asks .ensures)))

@@ -8,5 +8,5 @@ takes-spec =
     (tie.spec
     (λ c. search needs)
     (λ c. search needs)
-    (λ c. search needs)
+    (λ c. rw (c .enum-told .given .1))
     (λ c. rw (c .before .came .given .1)))

@@ -1,5 +1,5 @@
 use borrow.Author.Needs.{needs}
-use Rattle.ends.proofs.ControllerFields.{is-accepting, not-accepting}
+use Rattle.ends.proofs.ControllerFields.{numbered, is-accepting, not-accepting}
 use Rattle.ends.proofs.fields.read_controller.Statement.{statement}
 use Rattle.ends.proofs.fields.read_controller.Tie as tie
 
@@ -9,13 +9,13 @@ read-controller-spec =
     (tie.spec
     (λ c κs. search needs)
     (λ c κs. search (is-accepting, needs))
-    (λ c. search needs)
+    (λ c. search (numbered, needs))
     (λ c κs. search needs)
-    (λ c. search not-accepting)
+    (λ c. numbered _ (search not-accepting))
     (λ c κs. search needs)
     (λ c κs. search needs)
-    (λ c. search not-accepting)
+    (λ c. numbered _ (search not-accepting))
     (λ c κs. search needs)
-    (λ c. search not-accepting)
+    (λ c. numbered _ (search not-accepting))
     (λ c κs. search needs)
-    (λ c. search not-accepting))
+    (λ c. numbered _ (search not-accepting)))

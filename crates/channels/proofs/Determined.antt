@@ -1,10 +1,10 @@
 -- Each promise of the crate determines its answer, and the lent table afterwards.
 use mathlib.Core.Path.{_≡_, refl, sym, _∙_}
 use contract.Lifetimes.{Lfts}
-use borrow.Fn.Kinds.{Dens, endedOf, resT}
-use denote.Ref.{now, ptr}
-use denote.Triple.Clauses.{AtExit}
+use denote.Ref.{now}
+use denote.Triple.Entry.{Args, Res}
 use Rattle.ground.proofs.Promise.{Determined, DeterminedWith}
+use Rattle.channels.specs.Shown.{seen}
 use Rattle.channels.proofs.check.head_at.Kinds as head-at-kinds
 use Rattle.channels.proofs.check.head_at.Reads as head-at
 use Rattle.channels.proofs.check.packet_at.Kinds as packet-at-kinds
@@ -21,8 +21,8 @@ use Rattle.channels.proofs.change.clear.Kinds as clear-kinds
 use Rattle.channels.proofs.change.clear.Reads as clear
 use Rattle.channels.proofs.shown.show_refusal.Kinds as show-refusal-kinds
 use Rattle.channels.proofs.shown.show_refusal.Reads as show-refusal
-use Rattle.channels.proofs.shown.show.Kinds as show-kinds
-use Rattle.channels.proofs.shown.show.Reads as show
+use Rattle.channels.proofs.shown.show as show
+use Rattle.channels.proofs.Reading as reading
 
 pub head-at-determined : Determined head-at-kinds.ps head-at-kinds.r head-at.Post
 head-at-determined κs a x y s t p q = p ∙ sym q
@@ -48,6 +48,6 @@ clear-determined κs a x y s t p q = (refl, p ∙ sym q)
 pub show-refusal-determined : Determined show-refusal-kinds.ps show-refusal-kinds.r show-refusal.Post
 show-refusal-determined κs a x y s t p q = p ∙ sym q
 
--- of a part that is shown, its bytes and where it lies
-pub show-determined : (κs : Lfts 1) (a : Dens κs show-kinds.ps) (x y : resT show-kinds.r κs .Denot) (s t : AtExit (endedOf 1 show-kinds.ps show-kinds.r) κs) → show.Post κs a x s → show.Post κs a y t → (now x ≡ now y) × (ptr x ≡ ptr y)
-show-determined κs a x y s t p q = (p .0 ∙ sym (q .0), p .1 ∙ sym (q .1))
+-- of what is shown, the refusal, the part's bytes and where it lies
+pub show-determined : (κs : Lfts 1) (a : Args show.signature κs) (x y : Res show.signature κs) → reading.Post κs a x → reading.Post κs a y → seen x ≡ seen y
+show-determined κs a x y p q = p ∙ sym q

@@ -6,13 +6,17 @@ use mathlib.Core.List.{List, [], _∷_, _++_}
 use native.Mathlib.Omega.{arith}
 use lib.ListN.{length, getD, take, replicate, drop-of-length-le}
 use lib.Seq.{length-take-le}
+use contract.Lifetimes.{Lfts}
 use denote.Ref.{now, ptr}
+use denote.Triple.Entry.{Args, Res}
 use Rattle.ground.specs.Choice.{if_then_else_}
 use Rattle.ground.specs.Every.{filled}
 use Rattle.ground.specs.First.{first}
 use Rattle.ground.proofs.Promise.{RulesOut, unequal}
+use Rattle.ground.proofs.Tests.{by-test}
 use Rattle.wire.specs.Number.{bytesOf, value}
-use Rattle.wire.specs.Packet.{isBlank, packetBytes, headOf, headAt, readRefusal, accepted, refused, packetRead}
+use Rattle.wire.specs.Packet.{fits, isBlank, packetBytes, headOf, headAt, readRefusal, accepted, refused, packetRead}
+use Rattle.wire.specs.declared.Direction.{Direction}
 use Rattle.wire.specs.declared.Direction.the-variants.{ToController, ToConsole}
 use Rattle.wire.specs.declared.Head.{Head}
 use Rattle.wire.specs.declared.Head.the-variants.{NeedI, Ok}
@@ -20,11 +24,13 @@ use Rattle.wire.specs.declared.Packet.{Packet}
 use Rattle.wire.specs.declared.ReadHead.the-variants.{Is}
 use Rattle.wire.specs.declared.ReadPacket.{ReadPacket}
 use Rattle.wire.proofs.Heads.{is-other}
-use Rattle.channels.specs.Shown.{showRefusal, shown, shownAt}
-use Rattle.channels.specs.Table.{packetAt, goes, placesOk, tableOk, added}
+use Rattle.channels.specs.Shown.{showRefusal, shown, shownAt, Seen, seen, showing}
+use Rattle.channels.specs.Table.{laid, packetAt, goes, placesOk, isTable, tableOk, withCopies, added, takenOut}
 use Rattle.channels.proofs.Showing.{back-short, one-there}
 use Rattle.channels.proofs.change.add.Kinds as add-kinds
 use Rattle.channels.proofs.change.add.Reads as add
+use Rattle.channels.proofs.change.take_out.Kinds as take-out-kinds
+use Rattle.channels.proofs.change.take_out.Reads as take-out
 use Rattle.channels.proofs.change.clear.Kinds as clear-kinds
 use Rattle.channels.proofs.change.clear.Reads as clear
 use Rattle.channels.proofs.check.head_at.Kinds as head-at-kinds
@@ -35,16 +41,19 @@ use Rattle.channels.proofs.check.table_ok.Kinds as table-ok-kinds
 use Rattle.channels.proofs.check.table_ok.Reads as table-ok
 use Rattle.channels.proofs.shown.show_refusal.Kinds as show-refusal-kinds
 use Rattle.channels.proofs.shown.show_refusal.Reads as show-refusal
-use Rattle.channels.proofs.shown.show.Kinds as show-kinds
-use Rattle.channels.proofs.shown.show.Reads as show
+use Rattle.channels.proofs.shown.show as show
+use Rattle.channels.proofs.Reading as reading
 
 -- a packet without a message
 abbrev blank : Head → Packet
 blank h = record { head = h; message = replicate 16 0 }
 
+abbrev needs-1 : Packet
+needs-1 = blank (NeedI (record { 0 = 1 }))
+
 -- needI, then OK
 abbrev two : List ℕ
-two = packetBytes (blank (NeedI (record { 0 = 1 }))) ++ packetBytes (blank (Ok (record { 0 = 1 })))
+two = packetBytes needs-1 ++ packetBytes (blank (Ok (record { 0 = 1 })))
 
 -- ## Changing a table
 
@@ -54,6 +63,42 @@ added-none t p l = rw l
 
 pub adds-to-a-full-table : RulesOut add-kinds.ps add-kinds.r add.Post (λ κs a. (length (now (a .0)) ≡ 2048) × (a .1 .0 ≡ 64) × (a .1 .1 .0 ≡ 1)) (λ κs a x s. now (s .0) ≡ now (a .0) → ⊥)
 adds-to-a-full-table κs a x s e w p = w (p ∙ (λ i. added (now (a .0)) (e .1 i) (e .2 i) (a .1 .1 .1 .0)) ∙ added-none (now (a .0)) (a .1 .1 .1 .0) (e .0))
+
+second-copy : (getD (added (replicate 2048 0) 0 2 needs-1) 32 0 ≡ 0x48) × (getD (withCopies (replicate 2048 0) 0 1 needs-1) 32 0 ≡ 0)
+unfolding added laid packetBytes bytesOf fits if_then_else_ isBlank filled
+second-copy = (refl, refl)
+
+-- two copies for an empty table
+pub copies-on-one-place : RulesOut add-kinds.ps add-kinds.r add.Post (λ κs a. (now (a .0) ≡ replicate 2048 0) × (a .1 .0 ≡ 0) × (a .1 .1 .0 ≡ 2) × (a .1 .1 .1 .0 ≡ needs-1)) (λ κs a x s. now (s .0) ≡ withCopies (now (a .0)) 0 1 needs-1)
+copies-on-one-place κs a x s e w p =
+    let q = sym (p ∙ (λ i. added (e .0 i) (e .1 i) (e .2 i) (e .3 i))) ∙ w ∙ ap (λ (t : List ℕ). withCopies t 0 1 needs-1) (e .0) in
+    unequal (sym (second-copy .0) ∙ ap (λ (t : List ℕ). getD t 32 0) q ∙ second-copy .1) refl
+
+-- the first of two packets is taken out
+abbrev with-two : List ℕ
+with-two = two ++ replicate 1984 0
+
+first-out : (getD (takenOut with-two 2 0) 0 0 ≡ 0x48) × (getD (takenOut with-two 2 0) 32 0 ≡ 0)
+unfolding takenOut packetBytes bytesOf if_then_else_
+first-out = (refl, refl)
+
+two-begin : (getD with-two 31 0 ≡ 0) × (getD with-two 32 0 ≡ 0x48)
+unfolding packetBytes bytesOf
+two-begin = (refl, refl)
+
+pub moved-by-31-bytes : RulesOut take-out-kinds.ps take-out-kinds.r take-out.Post (λ κs a. (now (a .0) ≡ with-two) × (a .1 .0 ≡ 2) × (a .1 .1 .0 ≡ 0)) (λ κs a x s. getD (now (s .0)) 0 0 ≡ getD (now (a .0)) 31 0)
+moved-by-31-bytes κs a x s e w p = unequal (sym (first-out .0) ∙ sym (ap (λ (t : List ℕ). getD t 0 0) (p ∙ (λ i. takenOut (e .0 i) (e .1 i) (e .2 i)))) ∙ w ∙ ap (λ (t : List ℕ). getD t 31 0) (e .0) ∙ two-begin .0) refl
+
+pub leaves-the-freed-place : RulesOut take-out-kinds.ps take-out-kinds.r take-out.Post (λ κs a. (now (a .0) ≡ with-two) × (a .1 .0 ≡ 2) × (a .1 .1 .0 ≡ 0)) (λ κs a x s. getD (now (s .0)) 32 0 ≡ getD (now (a .0)) 32 0)
+leaves-the-freed-place κs a x s e w p = unequal (sym (first-out .1) ∙ sym (ap (λ (t : List ℕ). getD t 32 0) (p ∙ (λ i. takenOut (e .0 i) (e .1 i) (e .2 i)))) ∙ w ∙ ap (λ (t : List ℕ). getD t 32 0) (e .0) ∙ two-begin .1) refl
+
+none-out : (t : List ℕ) → takenOut t 1 1 ≡ t
+unfolding takenOut if_then_else_
+none-out t = by-test (isTable (length t) 1) (λ e. rw e) (λ e. rw e)
+
+-- the place that the count names
+pub takes-out-at-the-count : RulesOut take-out-kinds.ps take-out-kinds.r take-out.Post (λ κs a. (a .1 .0 ≡ 1) × (a .1 .1 .0 ≡ 1)) (λ κs a x s. now (s .0) ≡ now (a .0) → ⊥)
+takes-out-at-the-count κs a x s e w p = w (p ∙ (λ i. takenOut (now (a .0)) (e .0 i) (e .1 i)) ∙ none-out (now (a .0)))
 
 pub clear-changes-nothing : RulesOut clear-kinds.ps clear-kinds.r clear.Post (λ κs a. now (a .0) ≡ 1 ∷ []) (λ κs a x s. now (s .0) ≡ now (a .0))
 clear-changes-nothing κs a x s e w p = unequal (ap (λ (t : List ℕ). getD t 0 0) (sym e ∙ sym w ∙ p ∙ ap (λ (t : List ℕ). replicate (length t) 0) e)) refl
@@ -94,6 +139,14 @@ other-way t l h = rw (l, h)
 pub takes-the-other-direction : RulesOut table-ok-kinds.ps table-ok-kinds.r table-ok.Post (λ κs a. (length (now (a .0)) ≡ 2048) × (take 32 (now (a .0)) ≡ packetBytes (blank (Ok (record { 0 = 1 })))) × (a .1 .0 ≡ 1) × (a .1 .1 .0 ≡ ToController)) (λ κs a x s. x ≡ true)
 takes-the-other-direction κs a x s e w p = true≢false (sym w ∙ p ∙ (λ i. tableOk (e .3 i) (e .2 i) (now (a .0))) ∙ other-way (now (a .0)) (e .0) (e .1))
 
+one-above : (d : Direction) → tableOk d 0 (replicate 2047 0 ++ 1 ∷ []) ≡ false
+unfolding tableOk placesOk filled
+one-above d = refl
+
+-- no packets, and a byte above that is not zero
+pub zeros-above-not-looked-at : RulesOut table-ok-kinds.ps table-ok-kinds.r table-ok.Post (λ κs a. (now (a .0) ≡ replicate 2047 0 ++ 1 ∷ []) × (a .1 .0 ≡ 0)) (λ κs a x s. x ≡ true)
+zeros-above-not-looked-at κs a x s e w p = true≢false (sym w ∙ p ∙ (λ i. tableOk (a .1 .1 .0) (e .1 i) (e .0 i)) ∙ one-above (a .1 .1 .0))
+
 -- ## Showing
 
 -- place 0 of the channel to the controller, one packet there and none on the way back
@@ -113,15 +166,25 @@ module _ (out back : List ℕ) (l : length out ≡ 2048) (m : length back ≡ 20
   unfolding shownAt if_then_else_
   first-lies p q = rw granted
 
-pub always-shows-nothing : RulesOut show-kinds.ps show-kinds.r show.Post (λ κs a. (a .0 ≡ ToController) × (a .1 .0 ≡ 0) × (length (now (a .1 .1 .0)) ≡ 2048) × (a .1 .1 .1 .0 ≡ 1) × (length (now (a .1 .1 .1 .1 .0)) ≡ 2048) × (a .1 .1 .1 .1 .1 .0 ≡ 0)) (λ κs a x s. now x ≡ [])
-always-shows-nothing κs a x s e w p =
-    let out = now (a .1 .1 .0) in
-    let back = now (a .1 .1 .1 .1 .0) in
-    unequal (ap length (sym w ∙ p .0 ∙ (λ i. shown (e .0 i) (e .1 i) out (e .3 i) back (e .5 i)) ∙ first-shown out back (e .2) (e .4)) ∙ length-take-le 32 out (omega (arith, e .2))) refl
+pub takes-the-other-count : RulesOut show-refusal-kinds.ps show-refusal-kinds.r show-refusal.Post (λ κs a. (a .0 ≡ ToController) × (a .1 .0 ≡ 0) × (length (now (a .1 .1 .0)) ≡ 2048) × (a .1 .1 .1 .0 ≡ 1) × (length (now (a .1 .1 .1 .1 .0)) ≡ 2048) × (a .1 .1 .1 .1 .1 .0 ≡ 0)) (λ κs a x s. x ≡ 3)
+takes-the-other-count κs a x s e w p = unequal (sym w ∙ p ∙ (λ i. showRefusal (e .0 i) (e .1 i) (now (a .1 .1 .0)) (e .3 i) (now (a .1 .1 .1 .1 .0)) (e .5 i)) ∙ granted _ _ (e .2) (e .4)) refl
 
--- a part of another block than that of the table
-pub shows-a-copy : RulesOut show-kinds.ps show-kinds.r show.Post (λ κs a. (a .0 ≡ ToController) × (a .1 .0 ≡ 0) × (length (now (a .1 .1 .0)) ≡ 2048) × (a .1 .1 .1 .0 ≡ 1) × (length (now (a .1 .1 .1 .1 .0)) ≡ 2048) × (a .1 .1 .1 .1 .1 .0 ≡ 0)) (λ κs a x s. ptr x .0 ≡ ptr (a .1 .1 .0) .0 → ⊥)
-shows-a-copy κs a x s e w p =
-    let out = now (a .1 .1 .0) in
-    let back = now (a .1 .1 .1 .1 .0) in
-    w (ap (λ (v : ℕ × ℕ). v .0) (p .1 ∙ (λ i. shownAt (e .0 i) (e .1 i) out (e .3 i) back (e .5 i) (ptr (a .1 .1 .0)) (ptr (a .1 .1 .1 .1 .0)))) ∙ first-lies out back (e .2) (e .4) (ptr (a .1 .1 .0)) (ptr (a .1 .1 .1 .1 .0)))
+-- the same of what shows a part with its number
+module _ (κs : Lfts 1) (a : Args show.signature κs) (x : Res show.signature κs) (p : reading.Post κs a x)
+    (e : (a .0 ≡ ToController) × (a .1 .0 ≡ 0) × (length (now (a .1 .1 .0)) ≡ 2048) × (a .1 .1 .1 .0 ≡ 1) × (length (now (a .1 .1 .1 .1 .0)) ≡ 2048) × (a .1 .1 .1 .1 .1 .0 ≡ 0)) where
+  first-seen : seen x ≡ showing ToController 0 (a .1 .1 .0) 1 (a .1 .1 .1 .1 .0) 0
+  first-seen = p ∙ (λ i. showing (e .0 i) (e .1 i) (a .1 .1 .0) (e .3 i) (a .1 .1 .1 .1 .0) (e .5 i))
+
+  pub always-shows-nothing : now (x .part) ≡ [] → ⊥
+  unfolding showing
+  always-shows-nothing w =
+      unequal (ap length (sym w ∙ ap (λ (s : Seen). s .bytes) first-seen ∙ first-shown _ _ (e .2) (e .4)) ∙ length-take-le 32 (now (a .1 .1 .0)) (omega (arith, e .2))) refl
+
+  -- a part of another block than that of the table
+  pub shows-a-copy : (ptr (x .part) .0 ≡ ptr (a .1 .1 .0) .0 → ⊥) → ⊥
+  unfolding showing
+  shows-a-copy w = w (ap (λ (s : Seen). s .at .0) first-seen ∙ first-lies _ _ (e .2) (e .4) (ptr (a .1 .1 .0)) (ptr (a .1 .1 .1 .1 .0)))
+
+  pub shows-and-refuses : (x .refusal ≡ 0 → ⊥) → ⊥
+  unfolding showing
+  shows-and-refuses w = w (ap (λ (s : Seen). s .refusal) first-seen ∙ granted _ _ (e .2) (e .4))

@@ -9,6 +9,8 @@ use Rattle.ground.specs.First.{first}
 use Rattle.wire.specs.declared.Direction.{Direction}
 use Rattle.wire.specs.declared.Direction.the-variants.{ToController, ToConsole}
 use Rattle.wire.specs.Frame.{field}
+use denote.Ref.{RefT, now, ptr}
+use Rattle.channels.specs.declared.shown.Shown.{Shown}
 use Rattle.channels.specs.Table.{isTable}
 
 -- the one of the channel that was asked for
@@ -33,3 +35,20 @@ shown dir place out sent back returned =
 unfoldable pub shownAt : Direction → ℕ → List ℕ → ℕ → List ℕ → ℕ → ℕ × ℕ → ℕ × ℕ → ℕ × ℕ
 shownAt dir place out sent back returned p q =
     if eqb (showRefusal dir place out sent back returned) 0 then (asked dir p q .0, place * 32 + asked dir p q .1) else p
+
+-- ## What a caller has of it: the refusal, the part's bytes, and where they lie
+
+pub record Seen : Type 0 where
+  pub refusal : ℕ
+  pub bytes : List ℕ
+  pub at : ℕ × ℕ
+
+abbrev pub seen : Shown → Seen
+seen s = record { refusal = s .refusal; bytes = now (s .part); at = ptr (s .part) }
+
+unfoldable pub showing : Direction → ℕ → RefT (List ℕ) → ℕ → RefT (List ℕ) → ℕ → Seen
+showing dir place out sent back returned = record {
+  refusal = showRefusal dir place (now out) sent (now back) returned;
+  bytes = shown dir place (now out) sent (now back) returned;
+  at = shownAt dir place (now out) sent (now back) returned (ptr out) (ptr back);
+}

@@ -65,6 +65,10 @@ tableOk dir n t = isTable (length t) n && placesOk dir n t && filled 0 (drop (n 
 
 -- ## What is made of a table. Where it can't be done the table stays as it was
 
+-- zero bytes, as many
+abbrev pub cleared : List ℕ → List ℕ
+cleared t = replicate (length t) 0
+
 -- the table with n copies of a packet side by side from a place on
 abbrev pub withCopies : List ℕ → ℕ → ℕ → Packet → List ℕ
 withCopies t place n p = take (place * 32) t ++ (laid packetBytes (replicate n p) ++ drop ((place + n) * 32) t)

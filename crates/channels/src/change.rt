@@ -1,12 +1,13 @@
-// Changing a table.
+// Changing a table. These are for the bench, which refuses first; where they can't act they leave the table as it was.
 ghost use mathlib.Core.Path.{_≡_};
 ghost use mathlib.Core.List.{_++_};
 ghost use Prim.Native.Nat.{_≤_, _-_};
-ghost use lib.ListN.{length, drop, replicate};
-ghost use Rattle.channels.specs.Table.{added, takenOut};
+ghost use lib.ListN.{length, drop};
+ghost use Rattle.channels.specs.Table.{added, cleared, takenOut};
 use wire::Packet;
 
-// Without room for all copies nothing changes. Of a packet that doesn't fit, the writer leaves each place as it was.
+// The bench refuses by 9 before. Without room for all copies nothing changes; of a packet that doesn't fit, the writer leaves each place
+// as it was.
 pub fn add(table: &mut [u8], count: usize, copies: usize, p: Packet)
     ensures { λ _. ⌜ now (table .exit) ≡ added (now (table .entry)) count copies p ⌝ }
 {
@@ -27,8 +28,9 @@ pub fn add(table: &mut [u8], count: usize, copies: usize, p: Packet)
     }
 }
 
+// A fresh bench refuses tables of another length before; any length is cleared.
 pub fn clear(table: &mut [u8])
-    ensures { λ _. ⌜ now (table .exit) ≡ replicate (length (now (table .entry))) 0 ⌝ }
+    ensures { λ _. ⌜ now (table .exit) ≡ cleared (now (table .entry)) ⌝ }
 {
     let mut i = 0;
     while i < table.len() {
@@ -50,7 +52,7 @@ fn move_down(places: &mut [u8])
     }
 }
 
-// Moves and clears within the table itself. A place that isn't below the count changes nothing.
+// Moves and clears within the table itself. The bench refuses a place that isn't below the count by 3 before; it changes nothing.
 pub fn take_out(table: &mut [u8], count: usize, place: usize)
     ensures { λ _. ⌜ now (table .exit) ≡ takenOut (now (table .entry)) count place ⌝ }
 {

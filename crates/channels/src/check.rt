@@ -1,4 +1,4 @@
-// Reading a table.
+// Reading a table, for the bench, which refuses first.
 ghost use mathlib.Core.Path.{_≡_};
 ghost use Prim.Native.Nat.{_<_};
 ghost use Rattle.ground.specs.Bytes.{Bytes};
@@ -7,7 +7,8 @@ use wire::Direction;
 use wire::ReadHead;
 use wire::ReadPacket;
 
-// The packet at a place. Of a place that isn't there the empty part is read, which is refused.
+// The packet at a place. The bench refuses a place that isn't below the count by 3; of one that isn't there the empty part is read,
+// which is 12.
 pub fn packet_at(table: &[u8], place: usize) -> ReadPacket
     ensures { λ r. ⌜ r ≡ packetAt (now (table .entry)) place ⌝ }
 {
@@ -69,7 +70,7 @@ fn places_ok(table: &[u8], count: usize, dir: Direction) -> bool
     true
 }
 
-// Whether a channel is well formed. The table is read once.
+// Whether a channel is well formed; the bench refuses by 2 where it isn't. The table is read once.
 pub fn table_ok(table: &[u8], count: usize, dir: Direction) -> bool
     ensures { λ r. ⌜ r ≡ tableOk dir count (now (table .entry)) ⌝ }
 {
@@ -91,7 +92,7 @@ fn byte_fits(b: u8)
     ensures { λ _. ⌜ b < 256 ⌝ }
 {}
 
-// What the type of a slice of bytes says, for proofs to ask. It returns and changes nothing.
+// What the type of a slice of bytes says, for the bench's proofs to ask. It returns and changes nothing.
 pub fn bytes_fit(s: &[u8])
     ensures { λ _. ⌜ Bytes (now (s .entry)) ⌝ }
 {

@@ -10,5 +10,6 @@ pub use check::bytes_fit;
 pub use check::head_at;
 pub use check::packet_at;
 pub use check::table_ok;
+pub use shown::Shown;
 pub use shown::show;
 pub use shown::show_refusal;

@@ -28,7 +28,7 @@ use Rattle.channels.proofs.Channel.{channel-none}
 use Rattle.channels.proofs.Packets.{to-controller-coded, to-console-coded}
 use Rattle.bench.specs.Means.{benchBack}
 use Rattle.bench.specs.Promise.{Result, benchTold, benchStep}
-use Rattle.bench.specs.Running.{recordsOf, played, lines, limitOf, listLines}
+use Rattle.bench.specs.Running.{recordsOf, played, lines, limitOf, listLines, Ran, listRun}
 use Rattle.bench.specs.declared.Action.{Action}
 use Rattle.bench.specs.Orders.{asRules}
 use Rattle.bench.proofs.Orders.{out, back, step-of}
@@ -103,9 +103,9 @@ second-line rest = (ap (λ (l : List ℕ). getD (l ++ rest) 27 0) two-lines, ap 
 -- of two puts with room for two lines, the second line says 06; a runner that says of it what it said of the first does not meet the promise
 module _ (κs : Lfts 2) (a : Dens κs run-kinds.ps) (x : ℕ) (s : AtExit (endedOf 2 run-kinds.ps run-kinds.r) κs) (two : now (a .0) ≡ put ++ put) (room : length (now (a .1 .0)) ≡ 54) (meets : run.Post κs a x s) where
   written-so : now (s .1 .0) ≡ (lineBytes 1 0x50 Nothing spaces ++ (lineBytes 2 0x50 (Refused 6) spaces ++ [])) ++ drop (length (listLines 2 (put ++ put))) (now (a .1 .0))
-  unfolding limitOf if_then_else_
+  unfolding listRun limitOf if_then_else_
   written-so =
-      meets .whole
+      ap (λ (r : Ran). r .output) meets
       ∙ (λ i. listLines (limitOf (room i)) (two i) ++ drop (length (listLines (limitOf (room i)) (two i))) (now (a .1 .0)))
       ∙ ap (λ (l : List ℕ). l ++ drop (length (listLines 2 (put ++ put))) (now (a .1 .0))) two-lines
 

@@ -40,7 +40,7 @@ sound n h = le-leb n largest (omega (arith, h))
 
 -- ## The ends
 
-abbrev ConsoleMeant : Console → Type 0
+abbrev pub ConsoleMeant : Console → Type 0
 ConsoleMeant c = c .used .0 < 2 ^ 32 → c .last .0 < 2 ^ 32 → Console-ok counted isMessage (consoleMeans c)
 
 console-idle : (u : J) (up : Bool) → ConsoleMeant (consoleWith u console-mode.Idle up spaces)
@@ -56,10 +56,10 @@ console-send : (u : J) (l : I) (up : Bool) (m : List ℕ) → 0 < l .0 → isMes
 unfolding consoleMode if_then_else_
 console-send u l up m h g a b = record { numbers = sound (u .0) a; mode = (number (l .0) h b, g) }
 
-console-good : (c : Console) → length (c .message) ≡ 16 → consoleOk c ≡ true → ConsoleMeant c
+pub console-good : (c : Console) → length (c .message) ≡ 16 → consoleOk c ≡ true → ConsoleMeant c
 console-good c long ok = console-fields.by-mode ConsoleMeant console-idle console-needI console-send c long ok
 
-abbrev ControllerMeant : Controller → Type 0
+abbrev pub ControllerMeant : Controller → Type 0
 ControllerMeant c = controllerOk c ≡ true → c .used .0 < 2 ^ 32 → c .j .0 < 2 ^ 32 → Controller-ok counted (controllerMeans c)
 
 controller-idle : (u : I) (up : Bool) → ControllerMeant (controllerWith u controller-mode.Idle up)
@@ -83,7 +83,7 @@ controller-ack u l up h ok a b =
     let m = leb-true (l .0) (u .0) w in
     rw e (record { numbers = sound (u .0) a; mode = (number (l .0) h (omega (arith, m, a)), w) })
 
-controller-good : (c : Controller) → controllerOk c ≡ true → ControllerMeant c
+pub controller-good : (c : Controller) → controllerOk c ≡ true → ControllerMeant c
 controller-good c ok = controller-fields.by-mode ControllerMeant controller-idle controller-accept controller-ack c ok
 
 -- ## The check, test by test

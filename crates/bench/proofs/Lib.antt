@@ -9,9 +9,12 @@ pub mod Determined
 pub mod Echoes
 pub mod Handing
 pub mod Knowing
+pub mod Leaving
+pub mod Listed
 pub mod Losing
 pub mod Orders
 pub mod Playing
+pub mod Refusals
 pub mod Refusing
 pub mod Rooms
 pub mod Running

@@ -22,7 +22,7 @@ use Rattle.channels.proofs.Channel.{channel-none}
 use Rattle.channels.proofs.Packets.{to-controller-coded, to-console-coded}
 use Rattle.bench.specs.Means.{benchBack}
 use Rattle.channels.proofs.Parts.{part, replaced, part-length}
-use Rattle.bench.specs.Running.{recordsOf, played, lines, limitOf, listLines, listOutput, Ran}
+use Rattle.bench.specs.Running.{recordsOf, played, lines, limitOf, listLines, listOutput, Ran, atFront, listRun}
 use Rattle.bench.specs.Within.{Known, insideMeans, benchOf, Played, linesOn, started}
 use Rattle.bench.specs.declared.Bench.{Bench}
 use Rattle.bench.specs.declared.inside.Inside.{Inside}
@@ -159,22 +159,20 @@ module _ (all input before output : List ℕ) (limit n : ℕ) (b : Inside) (out 
       along-next v h r k (subst (λ (x : List ℕ). Played b out back x (n + 1) after line out′ back′) (record-is input (n * 21) k e) p) l
 
   -- no record is left
-  over : recordsOf (limit - n) (drop (n * 21) input) ≡ [] → Along all input before limit n b output out back → n ≤ limit → limit * 27 ≤ length before → Ran all before output (n * 27)
+  over : recordsOf (limit - n) (drop (n * 21) input) ≡ [] → Along all input before limit n b output out back → n ≤ limit → limit * 27 ≤ length before → _≡_ {A = Ran} (record { number = n * 27; output = output }) (atFront all before)
   unfolding lines
   over e v h r =
       let la : length (take (n * 27) output) ≡ n * 27 = length-take-le (n * 27) output (omega (arith, v .0, h, r)) in
       let same : all ≡ take (n * 27) output = v .2 ∙ ap (λ (x : List (List ℕ)). take (n * 27) output ++ lines (n + 1) (benchOf b) out back x) e ∙ append-nil (take (n * 27) output) in
       let number : n * 27 ≡ length all = sym la ∙ ap length (sym same) in
-      record {
-        number = number;
-        whole = sym (take-append-drop (n * 27) output) ∙ (λ i. sym same i ++ v .1 i) ∙ ap (λ (m : ℕ). all ++ drop m before) number;
-      }
+      let whole : output ≡ all ++ drop (length all) before = sym (take-append-drop (n * 27) output) ∙ (λ i. sym same i ++ v .1 i) ∙ ap (λ (m : ℕ). all ++ drop m before) number in
+      λ i. record { number = number i; output = whole i }
 
-  pub over-limit : limit ≤ n → Along all input before limit n b output out back → n ≤ limit → limit * 27 ≤ length before → Ran all before output (n * 27)
+  pub over-limit : limit ≤ n → Along all input before limit n b output out back → n ≤ limit → limit * 27 ≤ length before → _≡_ {A = Ran} (record { number = n * 27; output = output }) (atFront all before)
   unfolding recordsOf
   over-limit q v h r = let f : limit - n ≡ 0 = omega (arith, q) in over (ap (λ (m : ℕ). recordsOf m (drop (n * 21) input)) f) v h r
 
-  pub over-input : length input ≤ n * 21 → Along all input before limit n b output out back → n ≤ limit → limit * 27 ≤ length before → Ran all before output (n * 27)
+  pub over-input : length input ≤ n * 21 → Along all input before limit n b output out back → n ≤ limit → limit * 27 ≤ length before → _≡_ {A = Ran} (record { number = n * 27; output = output }) (atFront all before)
   over-input q v h r = over (ap (recordsOf (limit - n)) (drop-of-length-le input {i = n * 21} q) ∙ records-none (limit - n)) v h r
 
 -- ## From a fresh bench
@@ -186,21 +184,23 @@ starts-known out back e f g =
     (record { well-formed = fresh-well-formed counted isMessage 0 0 refl refl; out-holds = f ∙ sym (channel-none to-controller-coded); back-holds = g ∙ sym (channel-none to-console-coded) })
 
 pub starts-run : (b : Inside) (out back input before after : List ℕ) {n : ℕ} → b ≡ started → out ≡ replicate 2048 0 → back ≡ replicate 2048 0
-    → Ran (linesOn b out back input (length before)) before after n → Ran (listLines (limitOf (length before)) input) before after n
-unfolding linesOn listLines benchBack rules.fresh
+    → record { number = n; output = after } ≡ atFront (linesOn b out back input (length before)) before → record { number = n; output = after } ≡ listRun input before
+unfolding linesOn listLines listRun benchBack rules.fresh
 starts-run b out back input before after {n} e f g h =
-    subst (λ (x : List ℕ). Ran x before after n) (λ i. lines 1 (benchOf (e i)) (f i) (g i) (recordsOf (limitOf (length before)) input)) h
+    h ∙ λ i. atFront (lines 1 (benchOf (e i)) (f i) (g i) (recordsOf (limitOf (length before)) input)) before
 
 -- what is given is within the output
-pub ran-fits : {all before after : List ℕ} {n : ℕ} → Ran all before after n → n ≤ length after
-ran-fits {all} {before} {after} h =
-    let a = ap length (h .whole) in
+pub ran-fits : (input before after : List ℕ) {n : ℕ} → record { number = n; output = after } ≡ listRun input before → n ≤ length after
+unfolding listRun
+ran-fits input before after {n} h =
+    let all = listLines (limitOf (length before)) input in
+    let a : length after ≡ length (all ++ drop (length all) before) = ap (λ (r : Ran). length (r .output)) h in
     let b = length-append all (drop (length all) before) in
-    let c = h .number in
+    let c : n ≡ length all = ap (λ (r : Ran). r .number) h in
     omega (arith, a, b, c)
 
-pub ran-prefix : {all before after : List ℕ} {n : ℕ} → Ran all before after n → n ≡ length (take n after)
-ran-prefix {all} {before} {after} {n} h = sym (length-take-le n after (ran-fits h))
+pub ran-prefix : (input before after : List ℕ) {n : ℕ} → record { number = n; output = after } ≡ listRun input before → n ≡ length (take n after)
+ran-prefix input before after {n} h = sym (length-take-le n after (ran-fits input before after h))
 
 -- with room for 9,999 lines it is the whole output of the list program
 pub whole-list : (s : List ℕ) → listLines (limitOf 269_973) s ≡ listOutput s

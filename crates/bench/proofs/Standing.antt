@@ -29,7 +29,7 @@ above n h = leb-true 1 n (and-left (leb 1 n) (leb n largest) h)
 
 -- ## The console
 
-abbrev ConsoleStands : ends.Console ℕ (List ℕ) → Type 0
+abbrev pub ConsoleStands : ends.Console ℕ (List ℕ) → Type 0
 ConsoleStands e = (consoleOk (consoleBack e) ≡ true) × (consoleMeans (consoleBack e) ≡ e)
 
 idle-stands : (u : ℕ) (up : Bool) → ConsoleStands (record { numbers = u; mode = ends.ConsoleMode.idle; up = up })
@@ -44,14 +44,14 @@ send-stands : (u l : ℕ) (m : List ℕ) (up : Bool) → 0 < l → isMessage m �
 unfolding consoleOk consoleMode if_then_else_
 send-stands u l m up h g = rw (ne-eqb l 0 (omega (arith, h)), g, le-leb 0 u (omega arith)) (refl, refl)
 
-console-stands : (u : ℕ) (k : ends.ConsoleMode (List ℕ)) (up : Bool) → Console-bears (Given counted u) (Number counted) (Good isMessage) k → ConsoleStands (record { numbers = u; mode = k; up = up })
+pub console-stands : (u : ℕ) (k : ends.ConsoleMode (List ℕ)) (up : Bool) → Console-bears (Given counted u) (Number counted) (Good isMessage) k → ConsoleStands (record { numbers = u; mode = k; up = up })
 console-stands u ends.ConsoleMode.idle up h = idle-stands u up
 console-stands u (ends.in-needI j m) up h = needI-stands u j m up (above j (h .0 .0)) (h .0 .1) (h .1)
 console-stands u (ends.in-send l m) up h = send-stands u l m up (above l (h .0)) (h .1)
 
 -- ## The controller
 
-abbrev ControllerStands : ends.Controller ℕ → Type 0
+abbrev pub ControllerStands : ends.Controller ℕ → Type 0
 ControllerStands e = (controllerOk (controllerBack e) ≡ true) × (controllerMeans (controllerBack e) ≡ e)
 
 free-stands : (u : ℕ) (up : Bool) → ControllerStands (record { numbers = u; mode = ends.ControllerMode.idle; up = up })
@@ -66,7 +66,7 @@ ack-stands : (u l : ℕ) (up : Bool) → 0 < l → leb l u ≡ true → Controll
 unfolding controllerOk controllerMode if_then_else_
 ack-stands u l up h w = rw (ne-eqb l 0 (omega (arith, h)), w, le-leb 0 u (omega arith)) (refl, refl)
 
-controller-stands : (u : ℕ) (k : ends.ControllerMode) (up : Bool) → Controller-bears (Number counted) (Given counted u) k → ControllerStands (record { numbers = u; mode = k; up = up })
+pub controller-stands : (u : ℕ) (k : ends.ControllerMode) (up : Bool) → Controller-bears (Number counted) (Given counted u) k → ControllerStands (record { numbers = u; mode = k; up = up })
 controller-stands u ends.ControllerMode.idle up h = free-stands u up
 controller-stands u (ends.in-accept j i) up h = accept-stands u j i up (above j (h .0)) (above i (h .1 .0)) (h .1 .1)
 controller-stands u (ends.in-ack l) up h = ack-stands u l up (above l (h .0)) (h .1)

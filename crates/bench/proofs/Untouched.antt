@@ -1,6 +1,6 @@
 -- A refusal leaves the bench and both tables byte for byte, and delivers nothing; for every input that the types allow.
 use Prim.Native.Nat.{ℕ}
-use mathlib.Core.Path.{_≡_, refl, sym, ap, subst, _∙_}
+use mathlib.Core.Path.{_≡_, refl, sym, ap, _∙_}
 use mathlib.Core.Bool.{true}
 use mathlib.Core.Option.{Option, none, some}
 use mathlib.Core.List.{List}
@@ -13,9 +13,7 @@ use Rattle.protocol.specs.Letters.{Letter, letter}
 use Rattle.protocol.specs.Ends as ends
 use Rattle.protocol.specs.Bench as rules
 use Rattle.protocol.proofs.Bench.{step-refused-same}
-use Rattle.ends.specs.Means.{reportBack}
-use Rattle.ends.proofs.Telling.{unchanged, controller-unchanged}
-use Rattle.ends.specs.declared.Report.{Report}
+use Rattle.ends.proofs.Telling.{unchanged, controller-unchanged, number, refused-in-rules}
 use Rattle.ends.specs.declared.Report.the-variants as report
 use Rattle.channels.proofs.Channel.{packets-length}
 use Rattle.channels.proofs.Packets.{to-controller-coded, to-console-coded}
@@ -25,28 +23,6 @@ use Rattle.bench.specs.Within.{Known, Typed, insideMeans, insideOf}
 use Rattle.bench.specs.declared.Action.{Action}
 use Rattle.bench.specs.declared.Bench.{Bench}
 use Rattle.bench.proofs.Knowing.{console-passes, controller-passes, known-so}
-
-abbrev number : Report → ℕ
-number report.Nothing = 0
-number report.Delivered = 0
-number report.Ok = 0
-number report.Lost = 0
-number (report.Refused n) = n
-
-abbrev IsRefused : Report → Type 0
-IsRefused report.Nothing = ⊥
-IsRefused report.Delivered = ⊥
-IsRefused report.Ok = ⊥
-IsRefused report.Lost = ⊥
-IsRefused (report.Refused n) = Unit {0}
-
--- the rules refused with the same number
-refused-in-rules : (r : ends.Report (List ℕ)) (n : ℕ) → reportBack r ≡ report.Refused n → r ≡ ends.refused n
-refused-in-rules ends.nothing n e = absurd (subst IsRefused (sym e) tt)
-refused-in-rules (ends.delivered m) n e = absurd (subst IsRefused (sym e) tt)
-refused-in-rules ends.answered-ok n e = absurd (subst IsRefused (sym e) tt)
-refused-in-rules ends.answered-lost n e = absurd (subst IsRefused (sym e) tt)
-refused-in-rules (ends.refused k) n e = ap ends.refused (ap number e)
 
 module _ (b : Bench) (out back : List ℕ) where
   -- what is refused before the rules are asked

@@ -21,12 +21,12 @@ use Rattle.ends.specs.declared.fields.Controller.{Controller}
 use Rattle.channels.specs.Packets.{toControllerBytes, toControllerRead, toConsoleBytes, toConsoleRead}
 use Rattle.channels.specs.Table.{laid, channel, packets, placesOk, tableOk}
 use Rattle.bench.specs.Means.{benchOk, benchMeans, benchBack}
-use Rattle.bench.specs.Promise.{benchRefused, benchTold, benchStep, benchFresh}
+use Rattle.bench.specs.Promise.{Result, benchRefused, benchTold, benchStep, benchFresh}
 use Rattle.bench.specs.declared.Action.{Action}
 use Rattle.bench.specs.declared.Bench.{Bench}
 
 -- for proofs: `unfolding computes` opens all that a step is made of
-unfoldable computes : Unit {0}
+unfoldable pub computes : Unit {0}
 unfolding benchStep benchFresh benchRefused benchTold benchBack benchMeans benchOk consoleOk consoleMode controllerOk controllerMode tableOk
     placesOk packets channel laid toControllerBytes toControllerRead toConsoleBytes toConsoleRead packetBytes packetRead readRefusal headAt headOf
     value bytesOf isBlank isMessage cells filled letters among letter rules.rules if_then_else_
@@ -208,6 +208,20 @@ delivery : benchStep (bench asking (has 3 3 0) 3 1) (act 0x52 1 2 spaces) (out (
     }
 unfolding computes
 delivery = refl
+
+-- ## L of place 1, and M of place 0: that packet is out of its channel, and nothing else is done
+
+abbrev loses : ℕ → ℕ → Case
+loses letter place = (bench idle free 3 2, act letter place 0 spaces, out (needI 1 ∷ done 2 ∷ done 3 ∷ []), back (ok 2 ∷ offer 1 3 ∷ []))
+
+abbrev left : ℕ → ℕ → List (ToController (List ℕ)) → List ToConsole → Result
+left sent returned ps qs =
+    record { outcome = record { report = report.Nothing; message = spaces; bench = bench idle free sent returned }; out = out ps; back = back qs }
+
+lost-on-the-way : map (λ c. benchStep (c .0) (c .1) (c .2) (c .3)) (loses 0x4C 1 ∷ loses 0x4D 0 ∷ [])
+    ≡ left 2 2 (needI 1 ∷ done 3 ∷ []) (ok 2 ∷ offer 1 3 ∷ []) ∷ left 3 1 (needI 1 ∷ done 2 ∷ done 3 ∷ []) (offer 1 3 ∷ []) ∷ []
+unfolding computes
+lost-on-the-way = refl
 
 -- ## Fresh: the tables cleared; a table of another length is 2, and neither is touched
 

@@ -1,8 +1,8 @@
--- Benches that the promises shut out. A step: one that always refuses, one that always says OK, one that changes nothing. A fresh bench: one
--- that always refuses, one that leaves the tables as they were. A test of a bench: one that always says yes, one that doesn't look at the ends.
+-- Benches that the promises shut out. A step: one that always refuses, one that always says OK, one that changes nothing, and some that look at what they
+-- shouldn't or don't look at what they should. A fresh bench: one that always refuses, one that leaves the tables as they were.
 use Prim.Native.Nat.{ℕ}
 use mathlib.Core.Path.{_≡_, refl, sym, ap, _∙_}
-use mathlib.Core.Bool.{true, false, true≢false}
+use mathlib.Core.Bool.{true, false}
 use mathlib.Core.List.{List, [], _∷_}
 use native.Mathlib.Omega.{arith}
 use lib.ListN.{length, replicate, getD}
@@ -11,23 +11,21 @@ use contract.Lifetimes.{Lfts}
 use borrow.Fn.Kinds.{Dens, endedOf}
 use denote.Ref.{now}
 use denote.Triple.Clauses.{AtExit}
-use Rattle.ground.specs.Cell.{cells, isMessage, spaces}
+use Rattle.ground.specs.Cell.{spaces}
 use Rattle.ground.specs.Choice.{if_then_else_}
-use Rattle.ground.specs.Every.{filled}
 use Rattle.ground.proofs.Promise.{RulesOut}
 use Rattle.wire.specs.declared.I.{I}
 use Rattle.wire.specs.declared.J.{J}
 use Rattle.wire.specs.Number.{bytesOf}
 use Rattle.wire.specs.Packet.{packetBytes}
-use Rattle.protocol.specs.Letters.{letters, among, letter}
-use Rattle.protocol.specs.Ends.{needI}
+use Rattle.protocol.specs.Ends.{needI, ok}
 use Rattle.protocol.specs.Bench as rules
-use Rattle.ends.specs.Fields.{consoleOk, consoleMode, consoleWith, freshConsole, controllerOk, controllerMode, freshController}
+use Rattle.ends.specs.Fields.{consoleWith, freshConsole, freshController}
 use Rattle.ends.specs.declared.console.Mode.the-variants.{NeedI}
+use Rattle.ends.specs.declared.Report.{Report}
 use Rattle.ends.specs.declared.Report.the-variants as report
-use Rattle.channels.specs.Packets.{toControllerBytes}
-use Rattle.channels.specs.Table.{laid, channel, packets, placesOk, tableOk}
-use Rattle.bench.specs.Means.{benchOk, benchMeans, benchBack}
+use Rattle.channels.specs.Packets.{toControllerBytes, toConsoleBytes}
+use Rattle.channels.specs.Table.{laid, channel}
 use Rattle.bench.specs.Promise.{Result, benchTold, benchStep, benchFresh}
 use Rattle.bench.specs.declared.Action.{Action}
 use Rattle.bench.specs.declared.Bench.{Bench}
@@ -36,8 +34,7 @@ use Rattle.bench.proofs.step.Kinds as step-kinds
 use Rattle.bench.proofs.step.Reads as step
 use Rattle.bench.proofs.fresh.Kinds as fresh-kinds
 use Rattle.bench.proofs.fresh.Reads as fresh
-use Rattle.bench.proofs.well_formed.Kinds as well-formed-kinds
-use Rattle.bench.proofs.well_formed.Reads as well-formed
+use Rattle.bench.proofs.Vectors.{computes}
 
 no-refusal : (n : ℕ) → report.Nothing ≡ report.Refused n → ⊥
 no-refusal n e = let z : _≡_ {A = ℕ} 0 1 = cc in omega (arith, z)
@@ -70,8 +67,7 @@ abbrev needed : List ℕ
 needed = channel toControllerBytes (needI 1 ∷ [])
 
 sends : benchStep (asking 0) asks-once clear clear ≡ record { outcome = asked; out = needed; back = clear }
-unfolding benchStep benchTold benchBack benchMeans benchOk consoleOk consoleMode controllerOk controllerMode tableOk placesOk packets channel laid
-    rules.rules isMessage cells filled letters among letter if_then_else_
+unfolding computes
 sends = refl
 
 -- the first byte of the table
@@ -118,7 +114,7 @@ module _ (κs : Lfts 2) (a : Dens κs fresh-kinds.ps) (x : Outcome) (s : AtExit 
   fresh-leaves-back dirty e =
       dirty (sym e ∙ ap (λ (r : Result). r .back) meets ∙ fresh-clears (a .0) (a .1 .0) (now (a .1 .1 .0)) (now (a .1 .1 .1 .0)) out-long back-long .2)
 
--- ## A test of a bench
+-- ## The step: what it looks at
 
 abbrev started : Bench
 started =
@@ -135,17 +131,46 @@ contradicts =
       returned = 0;
     }
 
-short-table : (out back : List ℕ) → length out ≡ 2047 → benchOk started out back ≡ false
-unfolding benchOk consoleOk controllerOk tableOk filled if_then_else_
-short-table out back l = rw l
+-- needI is asked for, with 64 packets on their way to the console
+abbrev answered : Bench
+answered = record { console = asking 0 .console; controller = freshController (record { 0 = 0 }); sent = 0; returned = 64 }
 
-pub well-formed-always-yes : RulesOut well-formed-kinds.ps well-formed-kinds.r well-formed.Post (λ κs a. (a .0 ≡ started) × (length (now (a .1 .0)) ≡ 2047)) (λ κs a x s. x ≡ true)
-well-formed-always-yes κs a x s e w p =
-    let out = now (a .1 .0) in
-    let back = now (a .1 .1 .0) in
-    true≢false (sym w ∙ p ∙ ap (λ (b : Bench). benchOk b out back) (e .0) ∙ short-table out back (e .1))
+abbrev answers : List ℕ
+answers = channel toConsoleBytes (replicate 64 (ok 1))
 
--- with clear tables
-pub looks-at-no-end : RulesOut well-formed-kinds.ps well-formed-kinds.r well-formed.Post (λ κs a. (a .0 ≡ contradicts) × (now (a .1 .0) ≡ clear) × (now (a .1 .1 .0) ≡ clear)) (λ κs a x s. x ≡ true)
-unfolding benchOk consoleOk if_then_else_
-looks-at-no-end κs a x s e w p = true≢false (sym w ∙ p ∙ (λ i. benchOk (e .0 i) (e .1 i) (e .2 i)))
+abbrev act : ℕ → ℕ → ℕ → Action
+act letter place copies = record { letter = letter; place = place; copies = copies; message = spaces }
+
+-- handed this, one that reports that
+abbrev Reports : Bench → Action → List ℕ → List ℕ → Report → Type 0
+Reports b act out back r =
+    RulesOut step-kinds.ps step-kinds.r step.Post
+    (λ κs a. (a .0 ≡ b) × (a .1 .0 ≡ act) × (now (a .1 .1 .0) ≡ out) × (now (a .1 .1 .1 .0) ≡ back)) (λ κs a x s. x .report ≡ r)
+
+reports-other : (b : Bench) (a : Action) (out back : List ℕ) (r : Report) → (r ≡ benchStep b a out back .outcome .report → ⊥) → Reports b a out back r
+reports-other b a out back r differ κs d x s e w p =
+    differ (sym w ∙ ap (λ (z : Result). z .outcome .report) p ∙ λ i. benchStep (e .0 i) (e .1 i) (e .2 i) (e .3 i) .outcome .report)
+
+-- L0 on a fresh bench is 3: no place is below the count
+pub step-place-off-by-one : Reports started (act 0x4C 0 0) clear clear report.Nothing
+unfolding computes
+step-place-off-by-one = reports-other started (act 0x4C 0 0) clear clear report.Nothing (no-refusal 3)
+
+-- P doesn't use copies
+pub step-looks-at-unused-copies : Reports started (act 0x50 0 4) clear clear (report.Refused 10)
+unfolding computes
+step-looks-at-unused-copies = reports-other started (act 0x50 0 4) clear clear (report.Refused 10) (λ e. no-refusal 10 (sym e))
+
+-- Q goes to the controller
+pub step-room-of-the-other-channel : Reports answered (act 0x51 0 1) clear answers (report.Refused 9)
+unfolding computes
+step-room-of-the-other-channel = reports-other answered (act 0x51 0 1) clear answers (report.Refused 9) (λ e. no-refusal 9 (sym e))
+
+-- C on a bench that is not well formed
+pub step-looks-at-no-end : Reports contradicts (act 0x43 0 0) clear clear report.Nothing
+unfolding computes
+step-looks-at-no-end = reports-other contradicts (act 0x43 0 0) clear clear report.Nothing (no-refusal 2)
+
+pub step-takes-a-short-table : Reports started (act 0x43 0 0) (replicate 2047 0) clear report.Nothing
+unfolding computes
+step-takes-a-short-table = reports-other started (act 0x43 0 0) (replicate 2047 0) clear report.Nothing (no-refusal 2)

@@ -1,4 +1,5 @@
 pub mod Asking
+pub mod Listed
 pub mod Means
 pub mod Moving
 pub mod Orders

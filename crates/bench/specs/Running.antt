@@ -1,6 +1,5 @@
 -- The list program: its records, the step at every record, and a line for each. Assumes nothing.
 use Prim.Native.Nat.{ℕ, zero, suc, _/_}
-use mathlib.Core.Path.{_≡_}
 use mathlib.Core.List.{List, [], _∷_, _++_}
 use lib.Dec.{ltb}
 use lib.ListN.{length, getD, take, drop, replicate}
@@ -48,7 +47,14 @@ listLines n s = lines 1 (benchBack (freshRules (record { 0 = 0 }) (record { 0 = 
 unfoldable pub listOutput : List ℕ → List ℕ
 listOutput s = listLines 9999 s
 
--- n bytes of lines stand at the front of the output, and the rest of it is as it was
-pub record Ran (all before after : List ℕ) (n : ℕ) : Type 0 where
-  pub number : n ≡ length all
-  pub whole : after ≡ all ++ drop (length all) before
+-- what the runner comes to: how many bytes it wrote, and the output afterwards
+pub record Ran : Type 0 where
+  pub number : ℕ
+  pub output : List ℕ
+
+-- lines stand at the front of the output, and the rest of it is as it was
+abbrev pub atFront : List ℕ → List ℕ → Ran
+atFront all before = record { number = length all; output = all ++ drop (length all) before }
+
+unfoldable pub listRun : List ℕ → List ℕ → Ran
+listRun input before = atFront (listLines (limitOf (length before)) input) before

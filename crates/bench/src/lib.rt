@@ -63,7 +63,7 @@ fn refused(n: u8, b: Bench) -> Outcome
 }
 
 // Whether all of the bench is well formed. Each table is read once.
-pub fn well_formed(b: Bench, out: &[u8], back: &[u8]) -> bool
+fn well_formed(b: Bench, out: &[u8], back: &[u8]) -> bool
     ensures { λ r. ⌜ r ≡ benchOk b (now (out .entry)) (now (back .entry)) ⌝ }
 {
     let console = b.console;

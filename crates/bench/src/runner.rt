@@ -13,7 +13,7 @@ use wire::J;
 ghost use Prim.Native.Nat.{_<_};
 ghost use mathlib.Core.Path.{_≡_};
 ghost use lib.ListN.{length};
-ghost use Rattle.bench.specs.Running.{limitOf, listLines, Ran};
+ghost use Rattle.bench.specs.Running.{limitOf, atFront, listRun};
 ghost use Rattle.bench.specs.Within.{Known, within, FoundLined, recordStep, Played, linesOn, started};
 
 // A record that is not well formed is 1.
@@ -73,7 +73,7 @@ fn limit_of(room: usize) -> usize
 // Gives the bytes that were written. The tables are a fresh or a known bench's.
 fn run_on(b: Inside, input: &[u8], output: &mut [u8], out: &mut [u8], back: &mut [u8]) -> usize
     requires { ⌜ Known b (now out) (now back) ⌝ }
-    ensures { λ r. ⌜ Ran (linesOn b (now (out .entry)) (now (back .entry)) (now (input .entry)) (length (now (output .entry)))) (now (output .entry)) (now (output .exit)) r ⌝ }
+    ensures { λ r. ⌜ record { number = r; output = now (output .exit) } ≡ atFront (linesOn b (now (out .entry)) (now (back .entry)) (now (input .entry)) (length (now (output .entry)))) (now (output .entry)) ⌝ }
 {
     let limit = limit_of(output.len());
     let mut at = b;
@@ -122,7 +122,7 @@ fn starts() -> Inside
 // Plays a list of records of 21 bytes on a fresh bench and writes a line of 27 bytes for each, as far as there is room. Gives the bytes
 // that were written.
 pub fn run(input: &[u8], output: &mut [u8]) -> usize
-    ensures { λ r. ⌜ Ran (listLines (limitOf (length (now (output .entry)))) (now (input .entry))) (now (output .entry)) (now (output .exit)) r ⌝ }
+    ensures { λ r. ⌜ record { number = r; output = now (output .exit) } ≡ listRun (now (input .entry)) (now (output .entry)) ⌝ }
 {
     let mut out = [0; 2048];
     let mut back = [0; 2048];

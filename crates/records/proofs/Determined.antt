@@ -10,7 +10,7 @@ use Rattle.records.proofs.writing.write_line.Kinds as write-line-kinds
 use Rattle.records.proofs.writing.write_line.Reads as write-line
 
 pub read-determined : Determined read-kinds.ps read-kinds.r read.Post
-read-determined κs a x y s t p q = p ∙ sym q
+read-determined κs a x y s t p q = p .0 ∙ sym (q .0)
 
 pub record-end-determined : Determined record-end-kinds.ps record-end-kinds.r record-end.Post
 record-end-determined κs a x y s t p q = p ∙ sym q

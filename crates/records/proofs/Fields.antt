@@ -1,24 +1,24 @@
 -- What is read, from the answers of the calls that read it.
 use Prim.Native.Nat.{ℕ, _≤_}
-use mathlib.Core.Path.{_≡_, sym, _∙_}
-use mathlib.Core.Bool.{Bool, true, false}
+use mathlib.Core.Path.{_≡_, refl, sym, ap, _∙_}
+use mathlib.Core.Bool.{Bool, true, false, false≢true}
 use mathlib.Core.List.{List, _++_}
 use native.Mathlib.Omega.{arith}
 use borrow.Author.Tests.{ne-eqb, eq-eqb, leb-true}
 use lib.ListN.{length, getD, take, drop, length-drop}
 use lib.Seq.{length-take-le}
-use lib.Dec.{leb}
+use lib.Dec.{eqb, leb}
 use Rattle.ground.specs.Choice.{if_then_else_}
-use Rattle.ground.proofs.Tests.{and-left, and-right}
+use Rattle.ground.proofs.Tests.{by-test, and-left, and-right}
 use Rattle.wire.specs.Frame.{field}
 use Rattle.wire.proofs.Copies.{copied}
 use Rattle.protocol.specs.Letters.{letter}
-use Rattle.letters.specs.Lines.{foundOf}
+use Rattle.letters.specs.Lines.{foundOf, foundRefusal}
 use Rattle.letters.specs.declared.Line.{Line}
 use Rattle.letters.specs.declared.Found.{Found}
 use Rattle.letters.specs.declared.Found.the-variants as found
 use Rattle.records.specs.declared.Record.{Record}
-use Rattle.records.specs.Record.{digit, placeOf, copiesOf, isPlace, isCopies, placeFits, copiesFit, fieldsFit, wellFormed, fields, illFormed, listRecord, recordOf}
+use Rattle.records.specs.Record.{digit, placeOf, copiesOf, isPlace, isCopies, placeFits, copiesFit, fieldsFit, letterFits, wellFormed, fields, illFormed, listRecord, recordRefusal, recordOf}
 
 -- ## A record
 
@@ -93,3 +93,17 @@ module _ (s : List ℕ) {f : Found} {x : Record} (h : length s ≡ 21) (e : f �
   pub read-nothing : f ≡ found.Nothing → x ≡ illFormed → x ≡ listRecord s
   unfolding listRecord wellFormed if_then_else_
   read-nothing g k = rw (eq-eqb (length s) 21 h, ← e, g) k
+
+-- ## Document 01's number of what is read
+
+fits-numbered : (f : Found) (s : List ℕ) → letterFits f s ≡ true → foundRefusal f ≡ 0
+fits-numbered found.Nothing s e = absurd (false≢true e)
+fits-numbered (found.Line l) s e = refl
+
+pub read-number : (s : List ℕ) {x : Record} → x ≡ listRecord s → foundRefusal (x .found) ≡ recordRefusal s
+unfolding listRecord recordRefusal wellFormed fields illFormed if_then_else_
+read-number s e =
+    ap (λ (r : Record). foundRefusal (r .found)) e
+    ∙ by-test (wellFormed s)
+    (λ t. rw t (fits-numbered (foundOf (letter (getD s 0 0))) s (and-right (eqb (length s) 21) _ t)))
+    (λ n. rw n)

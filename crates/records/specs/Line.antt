@@ -1,5 +1,6 @@
 -- A line of the list program's output, 26 cells and 0x0A. Assumes nothing.
-use Prim.Native.Nat.{ℕ, zero, suc, _+_, _/_, _%_, _^_}
+use Prim.Native.Nat.{ℕ, zero, suc, _+_, _-_, _*_, _/_, _%_, _^_}
+use mathlib.Core.Bool.{_&&_}
 use mathlib.Core.List.{List, [], _∷_, _++_}
 use lib.ListN.{length}
 use lib.Dec.{eqb}
@@ -27,6 +28,15 @@ reportCells report.Delivered = 0x44 ∷ 0x4C ∷ []
 reportCells report.Ok = 0x4F ∷ 0x4B ∷ []
 reportCells report.Lost = 0x4C ∷ 0x4F ∷ []
 reportCells (report.Refused n) = decimals 2 n
+
+-- the report that two cells say; what is none of the four words is a refusal's number
+unfoldable pub cellsSay : ℕ → ℕ → Report
+cellsSay x y =
+    if eqb x 0x44 && eqb y 0x4C then report.Delivered
+    else if eqb x 0x4F && eqb y 0x4B then report.Ok
+    else if eqb x 0x4C && eqb y 0x4F then report.Lost
+    else if eqb x 0x2D && eqb y 0x2D then report.Nothing
+    else report.Refused (10 * (x - 0x30) + (y - 0x30))
 
 -- record number, four digits; space; the letter; space; two cells; space; the delivered message or 16 spaces; 0x0A
 unfoldable pub lineBytes : ℕ → ℕ → Report → List ℕ → List ℕ

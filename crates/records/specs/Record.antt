@@ -73,6 +73,10 @@ illFormed = record { found = found.Nothing; place = 0; copies = 0; message = spa
 unfoldable pub listRecord : List ℕ → Record
 listRecord s = if wellFormed s then fields (foundOf (letter (getD s 0 0))) s else illFormed
 
+-- document 01's number: a record that is not well formed is 1
+unfoldable pub recordRefusal : List ℕ → ℕ
+recordRefusal s = if wellFormed s then 0 else 1
+
 -- the same of 21 bytes whose letter has this line
 unfoldable pub recordOf : Line → List ℕ → Record
 recordOf l s = if fieldsFit l s then fields (found.Line l) s else illFormed

@@ -24,21 +24,21 @@ static const struct {
     uint8_t kind;
     uint32_t first, second;
 } cases[] = {
-    {"R needI, idle", 'R', 'i', NOOSELESS_NEEDI, 1, 0},      {"R data, delivered", 'R', 'a', NOOSELESS_DATA, 1, 0},
-    {"R data, a repeat", 'R', 'k', NOOSELESS_DATA, 1, 0},    {"R data, lost", 'R', 'u', NOOSELESS_DATA, 1, 0},
-    {"R done, acknowledged", 'R', 'k', NOOSELESS_DONE, 1, 0}, {"S offer, taken", 'S', 'n', NOOSELESS_OFFER, 1, 1},
-    {"S offer, done", 'S', 'i', NOOSELESS_OFFER, 1, 1},      {"S OK", 'S', 's', NOOSELESS_OK, 1, 0},
-    {"S lost", 'S', 's', NOOSELESS_LOST, 1, 0},
+    {"R needI, idle", 'R', 'i', NOOSELESS_KIND_NEEDI, 1, 0},      {"R data, delivered", 'R', 'a', NOOSELESS_KIND_DATA, 1, 0},
+    {"R data, a repeat", 'R', 'k', NOOSELESS_KIND_DATA, 1, 0},    {"R data, lost", 'R', 'u', NOOSELESS_KIND_DATA, 1, 0},
+    {"R done, acknowledged", 'R', 'k', NOOSELESS_KIND_DONE, 1, 0}, {"S offer, taken", 'S', 'n', NOOSELESS_KIND_OFFER, 1, 1},
+    {"S offer, done", 'S', 'i', NOOSELESS_KIND_OFFER, 1, 1},      {"S OK", 'S', 's', NOOSELESS_KIND_OK, 1, 0},
+    {"S lost", 'S', 's', NOOSELESS_KIND_LOST, 1, 0},
 };
 
 static uint8_t console(struct box *b, char letter, uint8_t kind, uint32_t first, uint32_t second) {
-    nooseless_write_packet(b->packet, sizeof b->packet, kind, first, second, kind == NOOSELESS_DATA ? cells : blank);
+    nooseless_write_packet(b->packet, sizeof b->packet, kind, first, second, kind == NOOSELESS_KIND_DATA ? cells : blank);
     return nooseless_console_step(b->console, sizeof b->console, (uint8_t)letter, cells, b->packet, sizeof b->packet, b->reply,
                                   sizeof b->reply);
 }
 
 static uint8_t controller(struct box *b, char letter, uint8_t kind, uint32_t first) {
-    nooseless_write_packet(b->packet, sizeof b->packet, kind, first, 0, kind == NOOSELESS_DATA ? cells : blank);
+    nooseless_write_packet(b->packet, sizeof b->packet, kind, first, 0, kind == NOOSELESS_KIND_DATA ? cells : blank);
     return nooseless_controller_step(b->controller, sizeof b->controller, (uint8_t)letter, b->packet, sizeof b->packet, b->reply,
                                      sizeof b->reply, b->delivered);
 }
@@ -49,15 +49,15 @@ static void prepare(struct box *b, int which) {
     nooseless_console_fresh(b->console, sizeof b->console, 0);
     nooseless_controller_fresh(b->controller, sizeof b->controller, 0);
     char p = cases[which].prepared;
-    if (p == 'n' || p == 's') console(b, 'P', NOOSELESS_OK, 1, 0);
-    if (p == 's') console(b, 'S', NOOSELESS_OFFER, 1, 1);
-    if (p == 'a' || p == 'k' || p == 'u') controller(b, 'R', NOOSELESS_NEEDI, 1);
-    if (p == 'k') controller(b, 'R', NOOSELESS_DATA, 1);
-    if (p == 'u') controller(b, 'R', NOOSELESS_DONE, 1);
+    if (p == 'n' || p == 's') console(b, 'P', NOOSELESS_KIND_OK, 1, 0);
+    if (p == 's') console(b, 'S', NOOSELESS_KIND_OFFER, 1, 1);
+    if (p == 'a' || p == 'k' || p == 'u') controller(b, 'R', NOOSELESS_KIND_NEEDI, 1);
+    if (p == 'k') controller(b, 'R', NOOSELESS_KIND_DATA, 1);
+    if (p == 'u') controller(b, 'R', NOOSELESS_KIND_DONE, 1);
     memset(b->reply, 0, sizeof b->reply);
     memset(b->delivered, 0, sizeof b->delivered);
     nooseless_write_packet(b->packet, sizeof b->packet, cases[which].kind, cases[which].first, cases[which].second,
-                           cases[which].kind == NOOSELESS_DATA ? cells : blank);
+                           cases[which].kind == NOOSELESS_KIND_DATA ? cells : blank);
 }
 
 static uint8_t nobody_r(uint8_t *state, size_t n, const uint8_t *packet, size_t packet_len, uint8_t *reply, size_t reply_len, uint8_t *delivered) {

@@ -26,16 +26,16 @@ static const struct {
 } actions[] = {
     {"P", 'P', 'i', 'i', 0, 0, 0, NOOSELESS_NOTHING},
     {"Q, one copy", 'Q', 'n', 'i', 0, 1, 0, NOOSELESS_NOTHING},
-    {"R needI", 'R', 'n', 'i', 0, 0, NOOSELESS_NEEDI, NOOSELESS_NOTHING},
-    {"R data, delivered", 'R', 's', 'a', 0, 1, NOOSELESS_DATA, NOOSELESS_DELIVERED},
-    {"S offer, taken", 'S', 'n', 'a', 0, 0, NOOSELESS_OFFER, NOOSELESS_NOTHING},
-    {"S OK", 'S', 's', 'k', 0, 1, NOOSELESS_OK, NOOSELESS_ANSWER_OK},
-    {"L", 'L', 'n', 'i', 0, 0, NOOSELESS_NEEDI, NOOSELESS_NOTHING},
+    {"R needI", 'R', 'n', 'i', 0, 0, NOOSELESS_KIND_NEEDI, NOOSELESS_NOTHING},
+    {"R data, delivered", 'R', 's', 'a', 0, 1, NOOSELESS_KIND_DATA, NOOSELESS_DELIVERED},
+    {"S offer, taken", 'S', 'n', 'a', 0, 0, NOOSELESS_KIND_OFFER, NOOSELESS_NOTHING},
+    {"S OK", 'S', 's', 'k', 0, 1, NOOSELESS_KIND_OK, NOOSELESS_ANSWER_OK},
+    {"L", 'L', 'n', 'i', 0, 0, NOOSELESS_KIND_NEEDI, NOOSELESS_NOTHING},
     {"P refused, 6", 'P', 'n', 'i', 0, 0, 0, NOOSELESS_OTHER_MODE},
     {"R refused, 3", 'R', 'n', 'i', 64, 0, 0, NOOSELESS_NO_PLACE},
-    {"R refused, 7", 'R', 's', 'i', 0, 1, NOOSELESS_DATA, NOOSELESS_NEVER_GIVEN},
+    {"R refused, 7", 'R', 's', 'i', 0, 1, NOOSELESS_KIND_DATA, NOOSELESS_NEVER_GIVEN},
     {"Q, two copies", 'Q', 'n', 'i', 0, 2, 0, NOOSELESS_NOTHING},
-    {"L refused, 2", 'L', 'n', 'i', 0, 0, NOOSELESS_NEEDI, NOOSELESS_ILL_FORMED},
+    {"L refused, 2", 'L', 'n', 'i', 0, 0, NOOSELESS_KIND_NEEDI, NOOSELESS_ILL_FORMED},
 };
 
 /* Both channels hold so many packets, but one at least where one is taken, and one less than all where one is sent: two copies are 9 then. */
@@ -64,7 +64,7 @@ static void set_ends(uint8_t *s, char console, char controller) {
 }
 
 static void set_packet(uint8_t *place, uint8_t kind) {
-    nooseless_write_packet(place, NOOSELESS_PACKET, kind, 1, kind == NOOSELESS_OFFER, kind == NOOSELESS_DATA ? cells : blank);
+    nooseless_write_packet(place, NOOSELESS_PACKET, kind, 1, kind == NOOSELESS_KIND_OFFER, kind == NOOSELESS_KIND_DATA ? cells : blank);
 }
 
 /* Kinds of a direction in turn, behind the one that is taken. */
@@ -73,8 +73,8 @@ static void fill(uint8_t *table, size_t count, const uint8_t kinds[3], uint8_t f
 }
 
 static void prepare(struct bench *b, int action, size_t packets) {
-    static const uint8_t to_controller[] = {NOOSELESS_NEEDI, NOOSELESS_DATA, NOOSELESS_DONE};
-    static const uint8_t to_console[] = {NOOSELESS_OFFER, NOOSELESS_OK, NOOSELESS_LOST};
+    static const uint8_t to_controller[] = {NOOSELESS_KIND_NEEDI, NOOSELESS_KIND_DATA, NOOSELESS_KIND_DONE};
+    static const uint8_t to_console[] = {NOOSELESS_KIND_OFFER, NOOSELESS_KIND_OK, NOOSELESS_KIND_LOST};
     int takes = actions[action].kind != 0, from_back = actions[action].letter == 'S', sends = actions[action].copies != 0;
     size_t least = packets == 0 && takes ? 1 : packets, room = packets == 64 && sends ? 63 : packets;
     size_t source = takes ? least : room, target = takes ? room : packets;

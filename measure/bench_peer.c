@@ -18,9 +18,9 @@ static inline int packet_well(const uint8_t *p, int out) {
     static const uint8_t head[5] = {'H', 'S', 'L', 0, 1}, none[NOOSELESS_MESSAGE];
     uint8_t kind = p[5];
     if (memcmp(p, head, sizeof head) != 0 || p[6] != 0 || p[7] != 0) return 0;
-    if (kind < NOOSELESS_NEEDI || kind > NOOSELESS_DONE || to_controller(kind) != out) return 0;
-    if (number(p + 8) == 0 || (number(p + 12) != 0) != (kind == NOOSELESS_OFFER)) return 0;
-    return kind == NOOSELESS_DATA ? all_cells(p + 16) : memcmp(p + 16, none, sizeof none) == 0;
+    if (kind < NOOSELESS_KIND_NEEDI || kind > NOOSELESS_KIND_DONE || to_controller(kind) != out) return 0;
+    if (number(p + 8) == 0 || (number(p + 12) != 0) != (kind == NOOSELESS_KIND_OFFER)) return 0;
+    return kind == NOOSELESS_KIND_DATA ? all_cells(p + 16) : memcmp(p + 16, none, sizeof none) == 0;
 }
 
 static inline int well(const uint8_t *table, size_t n, size_t count, int out) {
@@ -79,19 +79,19 @@ static uint8_t console_takes(uint8_t *s, struct channel from, struct channel to,
     if (place >= *from.count) return NOOSELESS_NO_PLACE;
     const uint8_t *p = from.table + place * NOOSELESS_PACKET;
     uint8_t kind = p[5], report = NOOSELESS_NOTHING;
-    uint32_t last = number(s + 8), first = number(p + 8), i = kind == NOOSELESS_OFFER ? number(p + 12) : first;
-    int taken = kind == NOOSELESS_OFFER && first == number(s + 4);
-    int reply = kind == NOOSELESS_OK || (kind == NOOSELESS_OFFER && !taken && i != last);
+    uint32_t last = number(s + 8), first = number(p + 8), i = kind == NOOSELESS_KIND_OFFER ? number(p + 12) : first;
+    int taken = kind == NOOSELESS_KIND_OFFER && first == number(s + 4);
+    int reply = kind == NOOSELESS_KIND_OK || (kind == NOOSELESS_KIND_OFFER && !taken && i != last);
     if (reply && full(to, copies)) return NOOSELESS_NO_ROOM;
     if (taken) {
         memset(s + 4, 0, 4);
         put_number(s + 8, i);
-    } else if (kind != NOOSELESS_OFFER && i == last) {
+    } else if (kind != NOOSELESS_KIND_OFFER && i == last) {
         rest(s);
-        report = kind == NOOSELESS_OK ? NOOSELESS_ANSWER_OK : NOOSELESS_ANSWER_LOST;
+        report = kind == NOOSELESS_KIND_OK ? NOOSELESS_ANSWER_OK : NOOSELESS_ANSWER_LOST;
     }
     take_out(from, place);
-    if (reply) send(to, copies, NOOSELESS_DONE, i, 0, 0);
+    if (reply) send(to, copies, NOOSELESS_KIND_DONE, i, 0, 0);
     return report;
 }
 
@@ -101,11 +101,11 @@ static uint8_t controller_takes(uint8_t *s, struct channel from, struct channel 
     const uint8_t *p = from.table + place * NOOSELESS_PACKET;
     uint8_t kind = p[5], report = NOOSELESS_NOTHING;
     uint32_t used = number(s), i = number(s + 8), last = number(s + 12), n = number(p + 8);
-    if (kind != NOOSELESS_NEEDI && n > used) return NOOSELESS_NEVER_GIVEN;
-    int reply = kind == NOOSELESS_DATA && n != last;
+    if (kind != NOOSELESS_KIND_NEEDI && n > used) return NOOSELESS_NEVER_GIVEN;
+    int reply = kind == NOOSELESS_KIND_DATA && n != last;
     if (reply && full(to, copies)) return NOOSELESS_NO_ROOM;
-    uint8_t answer = NOOSELESS_LOST;
-    if (kind == NOOSELESS_NEEDI) {
+    uint8_t answer = NOOSELESS_KIND_LOST;
+    if (kind == NOOSELESS_KIND_NEEDI) {
         if (i == 0 && last == 0 && used != UINT32_MAX) {
             put_number(s, used + 1);
             put_number(s + 4, n);
@@ -113,13 +113,13 @@ static uint8_t controller_takes(uint8_t *s, struct channel from, struct channel 
         }
     } else if (n == i) {
         memset(s + 4, 0, 8);
-        if (kind == NOOSELESS_DATA) {
+        if (kind == NOOSELESS_KIND_DATA) {
             put_number(s + 12, n);
             memcpy(delivered, p + 16, NOOSELESS_MESSAGE);
-            answer = NOOSELESS_OK;
+            answer = NOOSELESS_KIND_OK;
             report = NOOSELESS_DELIVERED;
         }
-    } else if (n == last && kind == NOOSELESS_DONE) {
+    } else if (n == last && kind == NOOSELESS_KIND_DONE) {
         memset(s + 12, 0, 4);
     }
     take_out(from, place);
@@ -155,16 +155,16 @@ uint8_t peer_bench_step(uint8_t *s, size_t n, uint8_t *out, size_t out_len, uint
     uint8_t told;
     switch (letter) {
     case 'P': return puts_order(s, message);
-    case 'Q': return sends(forth, copies, s[13], NOOSELESS_NEEDI, number(s + 4), 0, 0);
-    case 'D': return sends(forth, copies, s[13], NOOSELESS_DATA, number(s + 8), 0, s + 14);
+    case 'Q': return sends(forth, copies, s[13], NOOSELESS_KIND_NEEDI, number(s + 4), 0, 0);
+    case 'D': return sends(forth, copies, s[13], NOOSELESS_KIND_DATA, number(s + 8), 0, s + 14);
     case 'S': return console_takes(s, home, forth, place, copies);
     case 'C': s[13] = 0; return NOOSELESS_NOTHING;
     case 'V':
         told = comes_back(s, s + 13);
         if (!told) rest(s);
         return told;
-    case 'O': return sends(home, copies, d[16], NOOSELESS_OFFER, number(d + 4), number(d + 8), 0);
-    case 'K': return sends(home, copies, d[16], NOOSELESS_OK, number(d + 12), 0, 0);
+    case 'O': return sends(home, copies, d[16], NOOSELESS_KIND_OFFER, number(d + 4), number(d + 8), 0);
+    case 'K': return sends(home, copies, d[16], NOOSELESS_KIND_OK, number(d + 12), 0, 0);
     case 'R': return controller_takes(d, forth, home, place, copies, delivered);
     case 'X': d[16] = 0; return NOOSELESS_NOTHING;
     case 'Y':

@@ -31,12 +31,12 @@ static inline uint8_t read_packet(const uint8_t *p, size_t n, struct packet *out
     out->first = number(p + 8);
     out->second = number(p + 12);
     if (out->first == 0 || out->kind < 1 || out->kind > 6) return NOOSELESS_WRONG_FIELD;
-    if ((out->kind == NOOSELESS_OFFER) != (out->second != 0)) return NOOSELESS_WRONG_FIELD;
-    if (!(out->kind == NOOSELESS_DATA ? all_cells(p + 16) : all_are(p + 16, 0))) return NOOSELESS_WRONG_FIELD;
+    if ((out->kind == NOOSELESS_KIND_OFFER) != (out->second != 0)) return NOOSELESS_WRONG_FIELD;
+    if (!(out->kind == NOOSELESS_KIND_DATA ? all_cells(p + 16) : all_are(p + 16, 0))) return NOOSELESS_WRONG_FIELD;
     return 0;
 }
 
-static inline int to_controller(uint8_t kind) { return kind == NOOSELESS_NEEDI || kind == NOOSELESS_DATA || kind == NOOSELESS_DONE; }
+static inline int to_controller(uint8_t kind) { return kind == NOOSELESS_KIND_NEEDI || kind == NOOSELESS_KIND_DATA || kind == NOOSELESS_KIND_DONE; }
 
 /* Without a message. */
 static inline void write_packet(uint8_t *p, uint8_t kind, uint32_t first, uint32_t second) {

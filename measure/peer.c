@@ -14,29 +14,30 @@ uint8_t peer_r(uint8_t *s, size_t n, const uint8_t *packet, size_t packet_len, u
     if (refusal) return refusal;
     if (!to_controller(p.kind)) return NOOSELESS_WRONG_FIELD;
     if (!s[16]) return NOOSELESS_IS_DOWN;
-    if (p.kind == NOOSELESS_NEEDI) {
+    if (p.kind == NOOSELESS_KIND_NEEDI) {
         if (i == 0 && last == 0 && used != UINT32_MAX) {
             put_number(s, used + 1);
             put_number(s + 4, p.first);
             put_number(s + 8, used + 1);
+            return NOOSELESS_KEEP;
         }
         return NOOSELESS_NOTHING;
     }
     if (p.first > used) return NOOSELESS_NEVER_GIVEN;
     if (p.first == i) {
         __builtin_memset(s + 4, 0, 8);
-        if (p.kind == NOOSELESS_DONE) return NOOSELESS_NOTHING;
+        if (p.kind == NOOSELESS_KIND_DONE) return NOOSELESS_NOTHING;
         put_number(s + 12, i);
         __builtin_memcpy(delivered, packet + 16, NOOSELESS_MESSAGE);
-        write_packet(reply, NOOSELESS_OK, i, 0);
+        write_packet(reply, NOOSELESS_KIND_OK, i, 0);
         return NOOSELESS_DELIVERED | NOOSELESS_SENT;
     }
     if (p.first == last) {
-        if (p.kind == NOOSELESS_DONE) __builtin_memset(s + 12, 0, 4);
+        if (p.kind == NOOSELESS_KIND_DONE) __builtin_memset(s + 12, 0, 4);
         return NOOSELESS_NOTHING;
     }
-    if (p.kind == NOOSELESS_DONE) return NOOSELESS_NOTHING;
-    write_packet(reply, NOOSELESS_LOST, p.first, 0);
+    if (p.kind == NOOSELESS_KIND_DONE) return NOOSELESS_NOTHING;
+    write_packet(reply, NOOSELESS_KIND_LOST, p.first, 0);
     return NOOSELESS_SENT;
 }
 
@@ -49,22 +50,22 @@ uint8_t peer_s(uint8_t *s, size_t n, const uint8_t *packet, size_t packet_len, u
     if (refusal) return refusal;
     if (to_controller(p.kind)) return NOOSELESS_WRONG_FIELD;
     if (!s[13]) return NOOSELESS_IS_DOWN;
-    if (p.kind == NOOSELESS_OFFER) {
+    if (p.kind == NOOSELESS_KIND_OFFER) {
         if (j != 0 && p.first == j) {
             __builtin_memset(s + 4, 0, 4);
             put_number(s + 8, p.second);
             return NOOSELESS_NOTHING;
         }
         if (p.second == last) return NOOSELESS_NOTHING;
-        write_packet(reply, NOOSELESS_DONE, p.second, 0);
+        write_packet(reply, NOOSELESS_KIND_DONE, p.second, 0);
         return NOOSELESS_SENT;
     }
-    if (p.kind == NOOSELESS_LOST) {
+    if (p.kind == NOOSELESS_KIND_LOST) {
         if (p.first != last) return NOOSELESS_NOTHING;
         rest(s);
         return NOOSELESS_ANSWER_LOST;
     }
-    write_packet(reply, NOOSELESS_DONE, p.first, 0);
+    write_packet(reply, NOOSELESS_KIND_DONE, p.first, 0);
     if (p.first != last) return NOOSELESS_SENT;
     rest(s);
     return NOOSELESS_ANSWER_OK | NOOSELESS_SENT;

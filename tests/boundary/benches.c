@@ -84,7 +84,7 @@ static void step(void) {
     entry = "nooseless_bench_step";
     if (o.report != REFUSED) state_to(&b, theirs.state);
     if (o.report == DELIVERED) memcpy(theirs.delivered, o.message, CELLS);
-    uint8_t want = told_by(&benches, &o);
+    uint8_t want = told_by(&benches, &o, 0); /* a bench is no box: neither bit */
     check(nooseless_bench_step(ours.state, call.state_len, ours.out, call.out_len, ours.back, call.back_len, call.letter, call.place,
                                call.copies, ours.message, ours.delivered) == want);
     check(!memcmp(&ours, &theirs, sizeof ours));

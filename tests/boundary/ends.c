@@ -1,6 +1,7 @@
 /* Each end run alone: started, stepped, its number record. */
 #include "alone.h"
 
+#include <stdio.h>
 #include <string.h>
 
 struct box box;
@@ -100,36 +101,51 @@ static unsigned controller_rules(const Controller *c) {
 
 /* ---- the entries ---- */
 
-/* What the second program says must be the first that applies; then what the entry says is compared. */
-static void compare(const char *name, const Outcome *o, unsigned rules, uint8_t got) {
+/* The archive's own number records of two states, which are well formed. */
+static int records_differ(int controller, const uint8_t *before, const uint8_t *after) {
+    uint8_t (*record)(const uint8_t *, size_t, uint8_t *, size_t) = controller ? nooseless_controller_record : nooseless_console_record;
+    uint8_t records[2][NUMBER_RECORD_BYTES];
+    entry = "nooseless_.._record before and after a step";
+    check(record(before, asked.state_len, records[0], NUMBER_RECORD_BYTES) == 0);
+    check(record(after, asked.state_len, records[1], NUMBER_RECORD_BYTES) == 0);
+    return memcmp(records[0], records[1], NUMBER_RECORD_BYTES) != 0;
+}
+
+/* What the second program says must be the first that applies; then what the entry says is compared, and the bit that a record is to be kept
+ * with the records themselves. */
+static void compare(int controller, const Outcome *o, unsigned rules, int keep, uint8_t got) {
     entry = "the first rule of an end's step";
     check(o->refusal == first_of(rules));
-    entry = name;
-    check(got == told_by(&ends, o));
+    entry = controller ? "nooseless_controller_step" : "nooseless_console_step";
+    check(got == told_by(&ends, o, keep));
+    check(nooseless_is_refusal(got) == (o->report == REFUSED));
     check(!memcmp(&ours, &theirs, sizeof ours));
+    if (o->report != REFUSED) check(records_differ(controller, box.state, ours.state) == ((got & NOOSELESS_KEEP) != 0));
     count(&ends, o->refusal, rules);
 }
 
 void console_step(void) {
     ours = theirs = box;
     Console c = console_from(theirs.state, asked.state_len);
+    uint32_t used = c.last_used;
     unsigned rules = console_rules(&c);
     Outcome o = console_alone(&c, asked.letter, theirs.message, theirs.in, asked.in_len, theirs.out, asked.out_len);
     if (o.report != REFUSED) console_to(&c, theirs.state);
     uint8_t got = nooseless_console_step(ours.state, asked.state_len, asked.letter, ours.message, ours.in, asked.in_len, ours.out, asked.out_len);
-    compare("nooseless_console_step", &o, rules, got);
+    compare(0, &o, rules, c.last_used != used, got);
 }
 
 void controller_step(void) {
     ours = theirs = box;
     Controller c = controller_from(theirs.state, asked.state_len);
+    uint32_t used = c.last_used;
     unsigned rules = controller_rules(&c);
     Outcome o = controller_alone(&c, asked.letter, theirs.in, asked.in_len, theirs.out, asked.out_len);
     if (o.report != REFUSED) controller_to(&c, theirs.state);
     if (o.report == DELIVERED) memcpy(theirs.delivered, o.message, CELLS);
     uint8_t got = nooseless_controller_step(ours.state, asked.state_len, asked.letter, ours.in, asked.in_len, ours.out, asked.out_len,
                                             ours.delivered);
-    compare("nooseless_controller_step", &o, rules, got);
+    compare(1, &o, rules, c.last_used != used, got);
 }
 
 /* Fresh, or after power loss from a record: of either end. */
@@ -218,5 +234,7 @@ int enough_ends(void) {
     static const Pair known[] = {{1, 2}, {2, 4}, {2, 5}, {2, 6}, {2, 7}, {2, 8}, {2, 11}, {2, 12}, {2, 13}, {2, 14}, {2, 15}, {4, 6},
         {4, 7}, {4, 8}, {4, 11}, {4, 12}, {4, 13}, {4, 14}, {4, 15}, {6, 8}, {6, 11}, {6, 12}, {7, 12}, {8, 11}, {12, 13}, {12, 14},
         {12, 15}, {13, 14}, {13, 15}, {14, 15}};
-    return enough(&ends, "packets, records and ends alone", 0xFFFEu & ~(1u << 3 | 1u << 9 | 1u << 10), known, sizeof known / sizeof *known);
+    printf("ends alone: %lu times a record to keep, %lu times a packet sent\n", ends.kept, ends.sent);
+    return enough(&ends, "packets, records and ends alone", 0xFFFEu & ~(1u << 3 | 1u << 9 | 1u << 10), known, sizeof known / sizeof *known) &&
+           ends.kept >= LEAST && ends.sent >= LEAST;
 }

@@ -147,11 +147,13 @@ int first_of(unsigned rules) {
 
 /* ---- tallies ---- */
 
-uint8_t told_by(struct tally *t, const Outcome *o) {
-    static const uint8_t number[] = {0, 16, 17, 18};
+uint8_t told_by(struct tally *t, const Outcome *o, int keep) {
+    static const uint8_t number[] = {0, 64, 65, 66};
     t->told[o->report]++;
     if (o->report == REFUSED) return (uint8_t)o->refusal;
-    return (uint8_t)(number[o->report] | (o->written ? 0x80 : 0));
+    t->kept += keep != 0;
+    t->sent += o->written;
+    return (uint8_t)(number[o->report] | (keep ? 0x20 : 0) | (o->written ? 0x80 : 0));
 }
 
 void count(struct tally *t, int refusal, unsigned rules) {

@@ -12,9 +12,9 @@
 #define ROOM 48u /* a lent buffer with what follows it */
 #define LETTERS "PQDSCVOKRXYLM"
 
-/* How often each refusal was met, each pair of refusals that apply together, and each report. */
+/* How often each refusal was met, each pair of refusals that apply together, each report, and each bit beside a report. */
 struct tally {
-    unsigned long met[16], pairs[16][16], told[5];
+    unsigned long met[16], pairs[16][16], told[5], kept, sent;
 };
 
 extern struct tally ends, benches;
@@ -43,7 +43,7 @@ Controller controller_from(const uint8_t *s, size_t n);
 unsigned rule(int n, int applies); /* a set of rules: n, or none */
 int first_of(unsigned rules);      /* in document 01's order, or 0 */
 
-uint8_t told_by(struct tally *t, const Outcome *o);
+uint8_t told_by(struct tally *t, const Outcome *o, int keep); /* keep: last used is another than before */
 void count(struct tally *t, int refusal, unsigned rules);
 
 typedef int Pair[2];

@@ -1,5 +1,5 @@
 /*
- * The stack of the entries that step, on a painted stack, while a console and a controller talk over a link that loses, repeats and damages,
+ * The stack of the entries, on a painted stack, while a console and a controller talk over a link that loses, repeats and damages,
  * each alone and both on a bench, and while lists are played: stack STEPS SEED. Prints the most bytes that each entry used, its arguments and
  * return address included; ends with 1 if that is more than the entry may use, with 3 if an order was never delivered, answered OK and
  * answered lost, by ends alone or on the bench.
@@ -38,6 +38,8 @@ static uint8_t bench[NOOSELESS_BENCH_STATE], forth[NOOSELESS_TABLE], home[NOOSEL
 static uint8_t list[200 * NOOSELESS_LIST_RECORD], lines[200 * NOOSELESS_LINE];
 static volatile uint8_t letter, told; /* the compiler doesn't see what the calls below read and write */
 static volatile size_t place, copies, written;
+static uint8_t kind, cells[NOOSELESS_MESSAGE];
+static uint32_t first, second;
 
 static void step_console(void) {
     told = nooseless_console_step(console, sizeof console, letter, message, in, sizeof in, out, sizeof out);
@@ -59,6 +61,10 @@ static void show_bench(void) {
     size_t offset;
     told = nooseless_bench_show(bench, sizeof bench, forth, sizeof forth, home, sizeof home, NOOSELESS_CONSOLE, place, &offset);
 }
+static void read_packet(void) { told = nooseless_read_packet(in, sizeof in, &kind, &first, &second, cells); }
+static void write_packet(void) { told = nooseless_write_packet(out, sizeof out, kind, first, second, cells); }
+static void read_record(void) { told = nooseless_read_record(record, sizeof record, &kind, &first); }
+static void write_record(void) { told = nooseless_write_record(record, sizeof record, NOOSELESS_CONSOLE, first); }
 static void play(void) { written = nooseless_run(list, sizeof list, lines, sizeof lines); }
 static void nothing(void) {}
 
@@ -69,13 +75,15 @@ static const struct {
 } entries[] = {{"console_fresh", start_console, 512},   {"controller_fresh", start_controller, 512},   {"console_step", step_console, 512},
                {"controller_step", step_controller, 512}, {"console_record", record_console, 512},       {"controller_record", record_controller, 512},
                {"console_downed", down_console, 512},   {"controller_downed", down_controller, 512},   {"bench_fresh", start_bench, 512},
-               {"bench_step", step_bench, 2048},        {"bench_show", show_bench, 512},               {"run", play, 6144}};
-enum { CONSOLE_STEP = 2, CONTROLLER_STEP = 3, RECORD = 4, DOWNED = 6, BENCH_FRESH = 8, BENCH_STEP, BENCH_SHOW, RUN };
+               {"bench_step", step_bench, 2048},        {"bench_show", show_bench, 512},               {"run", play, 6144},
+               {"read_packet", read_packet, 512},       {"write_packet", write_packet, 512},           {"read_record", read_record, 512},
+               {"write_record", write_record, 512}};
+enum { CONSOLE_STEP = 2, CONTROLLER_STEP = 3, RECORD = 4, DOWNED = 6, BENCH_FRESH = 8, BENCH_STEP, BENCH_SHOW, RUN, READ_PACKET, WRITE_PACKET, READ_RECORD, WRITE_RECORD };
 
 static struct chance chance;
 static size_t most[sizeof entries / sizeof *entries];
 static size_t bare;
-static unsigned long seen[2][19]; /* by ends alone, on the bench */
+static unsigned long seen[2][NOOSELESS_ANSWER_LOST + 1]; /* by ends alone, on the bench */
 
 static void run(int which) {
     size_t n = used_by(entries[which].run) - bare;
@@ -84,7 +92,7 @@ static void run(int which) {
 
 static void stepped(int which) {
     run(which);
-    if (!NOOSELESS_IS_REFUSAL(told)) seen[which == BENCH_STEP][NOOSELESS_REPORT(told)]++;
+    if (!nooseless_is_refusal(told)) seen[which == BENCH_STEP][nooseless_report(told)]++;
 }
 
 /* An end's step, now and then after power loss. */
@@ -95,16 +103,21 @@ static void alone(void) {
     memcpy(in, air[end][below(&chance, 3) ? 0 : below(&chance, 16)], sizeof in);
     if (below(&chance, 50) == 0) in[below(&chance, sizeof in)] ^= 1;
     stepped(end ? CONTROLLER_STEP : CONSOLE_STEP);
-    if (told & NOOSELESS_SENT) {
+    int sent = told & NOOSELESS_SENT;
+    run(READ_PACKET);
+    if (sent) {
         memmove(air[!end][1], air[!end][0], 15 * sizeof in);
         memcpy(air[!end][0], out, sizeof out);
     }
+    run(WRITE_PACKET);
     if (below(&chance, 40) != 0) return;
     end = (int)below(&chance, 2);
     run(RECORD + end);
+    run(READ_RECORD);
     run(DOWNED + end);
     letter = end ? 'Y' : 'V';
     run(end ? CONTROLLER_STEP : CONSOLE_STEP);
+    run(WRITE_RECORD);
 }
 
 /* A step of the bench, which comes back at once when it goes down. */

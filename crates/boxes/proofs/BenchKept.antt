@@ -1,7 +1,7 @@
 -- A refusal of the bench's step leaves the state, both tables and the bytes lent for a delivery, whatever bytes are handed in.
 use Prim.Native.Nat.{ℕ, _^_, _<_}
 use mathlib.Core.Path.{_≡_, refl, ap, _∙_}
-use mathlib.Core.Bool.{_&&_}
+use mathlib.Core.Bool.{true, _&&_}
 use mathlib.Core.List.{List}
 use native.Mathlib.Omega.{arith}
 use borrow.Author.Tests.{eqb-true}
@@ -28,27 +28,37 @@ use Rattle.boxes.specs.Benches.{partsAt, benchAt, put, stepResult, stepP
 
 -- ## What bytes stand for has fields of their types
 
-record ConsoleTyped (c : Console) : Type 0 where
+pub record ConsoleTyped (c : Console) : Type 0 where
   pub message : length (c .message) ≡ 16
   pub used : c .used .0 < 2 ^ 32
   pub last : c .last .0 < 2 ^ 32
 
-record ControllerTyped (c : Controller) : Type 0 where
+pub record ControllerTyped (c : Controller) : Type 0 where
   pub used : c .used .0 < 2 ^ 32
   pub j : c .j .0 < 2 ^ 32
 
-console-typed : (s : List ℕ) → Bytes s → ConsoleTyped (console.consoleAt s)
-unfolding console.consoleAt console.isState console.fieldsAt if_then_else_
+state-long : (s : List ℕ) → console.isState s ≡ true → length s ≡ 30
+unfolding console.isState
+state-long s t =
+    let x = eqb (length s) 30 in
+    let y = leb (getD s 12 0) 1 in
+    eqb-true (length s) 30 (and-left x y (and-left (x && y) (leb (getD s 13 0) 1) t))
+
+-- whatever the bytes
+pub console-long : (s : List ℕ) → length (console.consoleAt s .message) ≡ 16
+unfolding console.consoleAt console.fieldsAt if_then_else_
+console-long s = by-test (console.isState s) (λ t. rw t (length-drop 14 s ∙ rw (state-long s t))) (λ f. rw f)
+
+pub console-typed : (s : List ℕ) → Bytes s → ConsoleTyped (console.consoleAt s)
+unfolding console.consoleAt console.fieldsAt if_then_else_
 console-typed s b =
     by-test (console.isState s)
     (λ t.
-    let x = eqb (length s) 30 in
-    let y = leb (getD s 12 0) 1 in
-    let l = eqb-true (length s) 30 (and-left x y (and-left (x && y) (leb (getD s 13 0) 1) t)) in
+    let l = state-long s t in
     rw t (record { message = length-drop 14 s ∙ rw l; used = field-below s 0 4 b (omega (arith, l)); last = field-below s 8 4 b (omega (arith, l)) }))
     (λ f. rw f (record { message = refl; used = omega arith; last = omega arith }))
 
-controller-typed : (s : List ℕ) → Bytes s → ControllerTyped (controller.controllerAt s)
+pub controller-typed : (s : List ℕ) → Bytes s → ControllerTyped (controller.controllerAt s)
 unfolding controller.controllerAt controller.isState controller.fieldsAt if_then_else_
 controller-typed s b =
     by-test (controller.isState s)

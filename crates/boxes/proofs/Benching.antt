@@ -96,7 +96,7 @@ module _ (p : Report) (s w : List ℕ) {r : Bool} (e : r ≡ isRefusal p) (f : r
 
 -- ## Fresh, and a step
 
-module _ (s : List ℕ) {o : Outcome} {x y z : List ℕ} {t : ℕ} (g : z ≡ (if isRefusal (o .report) then s else written 49 s (benchBytes (o .bench)))) (h : t ≡ told (o .report) false) where
+module _ (s : List ℕ) {o : Outcome} {x y z : List ℕ} {t : ℕ} (g : z ≡ (if isRefusal (o .report) then s else written 49 s (benchBytes (o .bench)))) (h : t ≡ told (o .report) false false) where
   put-is : {r : Result} → record { outcome = o; out = x; back = y } ≡ r → _≡_ {A = BenchPut} (record { told = t; state = z; out = x; back = y }) (put s r)
   put-is e =
       let here : _≡_ {A = BenchPut} (record { told = t; state = z; out = x; back = y }) (put s (record { outcome = o; out = x; back = y })) = λ i. record { told = h i; state = g i; out = x; back = y } in

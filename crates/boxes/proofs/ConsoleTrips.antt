@@ -88,7 +88,7 @@ console-write-back s b e = rw (well-formed-state s e) (same-bytes s b (well-form
 
 -- ## A step that is not refused met a state, and leaves the fields that the console run alone comes to
 
-console-ok : (s : List ℕ) (l : ℕ) (m packet reply : List ℕ) → isRefusal (consoleAlone (consoleAt s) l m packet reply .outcome .report) ≡ false → consoleOk (consoleAt s) ≡ true
+pub console-ok : (s : List ℕ) (l : ℕ) (m packet reply : List ℕ) → isRefusal (consoleAlone (consoleAt s) l m packet reply .outcome .report) ≡ false → consoleOk (consoleAt s) ≡ true
 console-ok s l m packet reply e =
     by-test (consoleOk (consoleAt s)) (λ t. t)
     (λ f. absurd (true≢false (sym (ill-refused (λ r. isRefusal r ≡ true) (λ n. refl) (consoleAt s) f l m packet reply) ∙ e)))

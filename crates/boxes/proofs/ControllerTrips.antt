@@ -81,7 +81,7 @@ controller-write-back s b e = rw (well-formed-state s e) (same-bytes s b (well-f
 
 -- ## A step that is not refused met a state, and leaves the fields that the controller run alone comes to
 
-controller-ok : (s : List ℕ) (l : ℕ) (packet reply : List ℕ) → isRefusal (controllerAlone (controllerAt s) l packet reply .outcome .report) ≡ false → controllerOk (controllerAt s) ≡ true
+pub controller-ok : (s : List ℕ) (l : ℕ) (packet reply : List ℕ) → isRefusal (controllerAlone (controllerAt s) l packet reply .outcome .report) ≡ false → controllerOk (controllerAt s) ≡ true
 controller-ok s l packet reply e =
     by-test (controllerOk (controllerAt s)) (λ t. t)
     (λ f. absurd (true≢false (sym (ill-refused (λ r. isRefusal r ≡ true) (λ n. refl) (controllerAt s) f l packet reply) ∙ e)))

@@ -4,6 +4,7 @@ use mathlib.Core.Path.{sym, ap, _∙_}
 use mathlib.Core.List.{List}
 use denote.Ref.{now}
 use Rattle.ground.proofs.Promise.{DeterminedWith}
+use Rattle.bench.specs.Running.{Ran}
 use Rattle.boxes.proofs.packets.nooseless_read_packet.Kinds as read-packet-kinds
 use Rattle.boxes.proofs.packets.nooseless_read_packet.Reads as read-packet
 use Rattle.boxes.proofs.packets.nooseless_write_packet.Kinds as write-packet-kinds
@@ -96,4 +97,4 @@ pub bench-show-determined : DeterminedWith bench-show-kinds.ps bench-show-kinds.
 bench-show-determined κs a x y s t p q = (p .0 ∙ sym (q .0), p .1 ∙ sym (q .1))
 
 pub run-determined : DeterminedWith run-kinds.ps run-kinds.r run.Post (λ κs s. now (s .1 .0))
-run-determined κs a x y s t p q = (p .number ∙ sym (q .number), p .whole ∙ sym (q .whole))
+run-determined κs a x y s t p q = let e = p ∙ sym q in (ap (λ (r : Ran). r .number) e, ap (λ (r : Ran). r .output) e)

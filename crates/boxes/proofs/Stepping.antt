@@ -1,7 +1,7 @@
 -- The entries of each end, from the answers of their calls.
 use Prim.Native.Nat.{ℕ}
 use mathlib.Core.Path.{_≡_, sym, ap, _∙_}
-use mathlib.Core.Bool.{true, false}
+use mathlib.Core.Bool.{Bool, true, false}
 use mathlib.Core.List.{List}
 use native.Mathlib.Omega.{arith}
 use lib.ListN.{length}
@@ -25,7 +25,7 @@ use Rattle.alone.specs.ControllerAlone.{ControllerAlone, controllerAlone}
 use Rattle.alone.specs.declared.console.ConsoleOutcome.{ConsoleOutcome}
 use Rattle.alone.specs.declared.controller.ControllerOutcome.{ControllerOutcome}
 use Rattle.boxes.specs.declared.state.Last.{Last}
-use Rattle.boxes.specs.State.{isRefusal, told, written, started, stateRecordRefusal, stateRecordPut}
+use Rattle.boxes.specs.State.{isRefusal, changed, told, written, started, stateRecordRefusal, stateRecordPut}
 use Rattle.boxes.specs.Console as console
 use Rattle.boxes.specs.Controller as controller
 use Rattle.boxes.proofs.Keeping.{started-0, record-2, record-n, record-kept, record-put}
@@ -109,14 +109,16 @@ pub controller-started : (s : List ℕ) (c : Controller) {d : Controller} {x : L
 controller-started s c e f = rw (← e) f
 
 -- the steps
-pub console-stepped : (s m packet reply : List ℕ) (l : ℕ) {c : Console} {o : ConsoleOutcome} {y z : List ℕ} {t : ℕ} → c ≡ console.consoleAt s → record { outcome = o; reply = y } ≡ consoleAlone c l m packet reply → z ≡ (if isRefusal (o .report) then s else written 30 s (console.consoleBytes (o .console))) → t ≡ told (o .report) (o .sent) → record { told = t; state = z; reply = y } ≡ console.consoleStep s l m packet reply
-console-stepped s m packet reply l {o = o} {y = y} e f g h =
+pub console-stepped : (s m packet reply : List ℕ) (l : ℕ) {c : Console} {o : ConsoleOutcome} {y z : List ℕ} {t : ℕ} {k : Bool} → c ≡ console.consoleAt s → record { outcome = o; reply = y } ≡ consoleAlone c l m packet reply → z ≡ (if isRefusal (o .report) then s else written 30 s (console.consoleBytes (o .console))) → k ≡ changed (c .used .0) (o .console .used .0) → t ≡ told (o .report) (o .sent) k → record { told = t; state = z; reply = y } ≡ console.consoleStep s l m packet reply
+console-stepped s m packet reply l {o = o} {y = y} e f g k h =
     let q = f ∙ ap (λ (d : Console). consoleAlone d l m packet reply) e in
-    let here : _≡_ {A = console.ConsoleStep} (record { told = _; state = _; reply = y }) (console.stepped s (record { outcome = o; reply = y })) = λ i. record { told = h i; state = g i; reply = y } in
+    let tells = h ∙ ap (told (o .report) (o .sent)) (k ∙ ap (λ (d : Console). changed (d .used .0) (o .console .used .0)) e) in
+    let here : _≡_ {A = console.ConsoleStep} (record { told = _; state = _; reply = y }) (console.stepped s (record { outcome = o; reply = y })) = λ i. record { told = tells i; state = g i; reply = y } in
     here ∙ ap (console.stepped s) q
 
-pub controller-stepped : (s packet reply out : List ℕ) (l : ℕ) {c : Controller} {o : ControllerOutcome} {y z d : List ℕ} {t : ℕ} → c ≡ controller.controllerAt s → record { outcome = o; reply = y } ≡ controllerAlone c l packet reply → z ≡ (if isRefusal (o .report) then s else written 17 s (controller.controllerBytes (o .controller))) → d ≡ controller.deliveredTo (o .report) (o .message) out → t ≡ told (o .report) (o .sent) → record { told = t; state = z; reply = y; delivered = d } ≡ controller.controllerStep s l packet reply out
-controller-stepped s packet reply out l {o = o} {y = y} e f g k h =
+pub controller-stepped : (s packet reply out : List ℕ) (l : ℕ) {c : Controller} {o : ControllerOutcome} {y z d : List ℕ} {t : ℕ} {k : Bool} → c ≡ controller.controllerAt s → record { outcome = o; reply = y } ≡ controllerAlone c l packet reply → z ≡ (if isRefusal (o .report) then s else written 17 s (controller.controllerBytes (o .controller))) → d ≡ controller.deliveredTo (o .report) (o .message) out → k ≡ changed (c .used .0) (o .controller .used .0) → t ≡ told (o .report) (o .sent) k → record { told = t; state = z; reply = y; delivered = d } ≡ controller.controllerStep s l packet reply out
+controller-stepped s packet reply out l {o = o} {y = y} e f g p k h =
     let q = f ∙ ap (λ (d : Controller). controllerAlone d l packet reply) e in
-    let here : _≡_ {A = controller.ControllerStep} (record { told = _; state = _; reply = y; delivered = _ }) (controller.stepped s out (record { outcome = o; reply = y })) = λ i. record { told = h i; state = g i; reply = y; delivered = k i } in
+    let tells = h ∙ ap (told (o .report) (o .sent)) (k ∙ ap (λ (d : Controller). changed (d .used .0) (o .controller .used .0)) e) in
+    let here : _≡_ {A = controller.ControllerStep} (record { told = _; state = _; reply = y; delivered = _ }) (controller.stepped s out (record { outcome = o; reply = y })) = λ i. record { told = tells i; state = g i; reply = y; delivered = p i } in
     here ∙ ap (controller.stepped s out) q

@@ -1,5 +1,5 @@
 -- Benches in C's hands that the promises shut out. A step: one that always refuses, one that always says OK, one that changes nothing, one
--- that trusts its bytes. Fresh: one that always refuses, one that leaves a table. Showing: one that always gives the first place, one that
+-- that swaps its counts, one that trusts its bytes, one that is changed by a refusal. Fresh: one that always refuses, one that leaves a table. Showing: one that always gives the first place, one that
 -- never refuses, one that takes the other channel.
 use Prim.Native.Nat.{ℕ}
 use mathlib.Core.Path.{_≡_, refl, sym, ap, _∙_}
@@ -12,10 +12,12 @@ use borrow.Fn.Kinds.{Dens, endedOf}
 use denote.Ref.{now}
 use denote.Triple.Clauses.{AtExit}
 use lib.ListN.{length, getD, replicate}
+use Rattle.ground.specs.Bytes.{Bytes}
 use Rattle.ground.specs.Cell.{cells, isMessage, spaces}
 use Rattle.ground.specs.Choice.{if_then_else_}
 use Rattle.ground.specs.Every.{filled}
 use Rattle.ground.specs.First.{first}
+use Rattle.ground.proofs.Promise.{RulesOut}
 use Rattle.wire.specs.declared.I.{I}
 use Rattle.wire.specs.declared.J.{J}
 use Rattle.wire.specs.Number.{bytesOf, value}
@@ -35,8 +37,10 @@ use Rattle.bench.specs.declared.Action.{Action}
 use Rattle.bench.specs.declared.Bench.{Bench}
 use Rattle.boxes.specs.Console as console
 use Rattle.boxes.specs.Controller as controller
-use Rattle.boxes.specs.State.{written}
+use Rattle.boxes.specs.State.{marks, written}
 use Rattle.boxes.specs.Benches.{benchBytes, partsAt, benchAt, BenchPut, put, freshPut, stepPut, showTo, showAt, offsetAt}
+use Rattle.boxes.proofs.StepRefusals.{bench-step-refusal-leaves}
+use Rattle.boxes.proofs.Told.{Refusal}
 use Rattle.boxes.proofs.benches.nooseless_bench_step.Kinds as step-kinds
 use Rattle.boxes.proofs.benches.nooseless_bench_step.Reads as step
 use Rattle.boxes.proofs.benches.nooseless_bench_fresh.Kinds as fresh-kinds
@@ -78,7 +82,7 @@ unfolding benchStep benchTold benchBack benchMeans benchOk consoleOk consoleMode
 sends = refl
 
 writes : put (benchBytes (asking 0)) asked ≡ record { told = 0; state = benchBytes (asking 1); out = needed; back = clear }
-unfolding benchBytes console.consoleBytes controller.controllerBytes bytesOf written if_then_else_
+unfolding benchBytes console.consoleBytes controller.controllerBytes bytesOf marks written if_then_else_
 writes = refl
 
 sent : stepPut (benchBytes (asking 0)) asks-once clear clear ≡ record { told = 0; state = benchBytes (asking 1); out = needed; back = clear }
@@ -105,6 +109,12 @@ module _ (κs : Lfts 5) (a : Dens κs step-kinds.ps) (n : ℕ) (s : AtExit (ende
       let z : _≡_ {A = ℕ} 1 0 = ap (λ (l : List ℕ). getD l 47 0) q in
       omega (arith, z)
 
+  -- the packet that was sent counted as one that was returned
+  pub step-swaps-the-counts : getD (now (s .0)) 48 0 ≡ 1 → ⊥
+  unfolding benchBytes console.consoleBytes controller.controllerBytes bytesOf
+  step-swaps-the-counts e =
+      let z : _≡_ {A = ℕ} 1 0 = sym e ∙ ap (λ (r : BenchPut). getD (r .state) 48 0) so in omega (arith, z)
+
   pub step-leaves-the-tables : now (s .1 .0) ≡ now (a .1 .0) → ⊥
   step-leaves-the-tables e =
       let z : _≡_ {A = ℕ} 0x48 0 = sym begins ∙ ap (λ (t : List ℕ). getD t 0 0) (sym (ap (λ (r : BenchPut). r .out) so) ∙ e ∙ out) in omega (arith, z)
@@ -119,10 +129,13 @@ module _ (κs : Lfts 5) (a : Dens κs step-kinds.ps) (n : ℕ) (s : AtExit (ende
   step-trusts h =
       h (ap (λ (r : BenchPut). r .told) (meets .0 ∙ (λ i. stepPut (none i) (does i) (now (a .1 .0)) (now (a .1 .1 .0))) ∙ untrusted (now (a .1 .0)) (now (a .1 .1 .0))))
 
+pub step-changed-by-a-refusal : RulesOut step-kinds.ps step-kinds.r step.Post (λ κs a. Bytes (now (a .0)) × Bytes (now (a .1 .0)) × Bytes (now (a .1 .1 .0))) (λ κs a x s. Refusal x × (now (s .0) ≡ now (a .0) → ⊥))
+step-changed-by-a-refusal κs a x s e w p = w .1 (ap (λ (r : List ℕ × List ℕ × List ℕ × List ℕ). r .0) (bench-step-refusal-leaves κs a x s e (w .0) p))
+
 -- ## Fresh: with a state of 49 bytes and tables of 2,048
 
 fresh-clears : (j : J) (i : I) (s out back : List ℕ) → length s ≡ 49 → length out ≡ 2048 → length back ≡ 2048 → (freshPut j i s out back .told ≡ 0) × (freshPut j i s out back .out ≡ clear) × (freshPut j i s out back .back ≡ clear)
-unfolding freshPut benchFresh benchTold rules.fresh channel laid if_then_else_
+unfolding freshPut benchFresh benchTold rules.fresh channel laid marks if_then_else_
 fresh-clears j i s out back l m n = rw (eq-eqb (length s) 49 l, eq-eqb (length out) 2048 m, eq-eqb (length back) 2048 n) (refl, refl, refl)
 
 module _ (κs : Lfts 3) (a : Dens κs fresh-kinds.ps) (n : ℕ) (s : AtExit (endedOf 3 fresh-kinds.ps fresh-kinds.r) κs) (state-long : length (now (a .0)) ≡ 49) (out-long : length (now (a .1 .0)) ≡ 2048) (back-long : length (now (a .1 .1 .0)) ≡ 2048) (meets : fresh.Post κs a n s) where

@@ -10,7 +10,7 @@ use denote.Ref.{now}
 use denote.Triple.Clauses.{AtExit}
 use lib.ListN.{length, getD, drop}
 use Rattle.ground.specs.Choice.{if_then_else_}
-use Rattle.bench.specs.Running.{recordsOf, lines, limitOf, listLines}
+use Rattle.bench.specs.Running.{recordsOf, lines, limitOf, listLines, Ran, listRun}
 use Rattle.bench.proofs.Echoes.{put, second-line}
 use Rattle.boxes.proofs.lists.nooseless_run.Kinds as run-kinds
 use Rattle.boxes.proofs.lists.nooseless_run.Reads as run
@@ -21,8 +21,8 @@ module _ (κs : Lfts 2) (a : Dens κs run-kinds.ps) (n : ℕ) (s : AtExit (ended
   rest = drop (length (listLines 2 (put ++ put))) (now (a .1 .0))
 
   written-so : now (s .1 .0) ≡ listLines 2 (put ++ put) ++ rest
-  unfolding limitOf if_then_else_
-  written-so = meets .whole ∙ (λ i. listLines (limitOf (room i)) (two i) ++ drop (length (listLines (limitOf (room i)) (two i))) (now (a .1 .0)))
+  unfolding listRun limitOf if_then_else_
+  written-so = ap (λ (r : Ran). r .output) meets ∙ (λ i. listLines (limitOf (room i)) (two i) ++ drop (length (listLines (limitOf (room i)) (two i))) (now (a .1 .0)))
 
   -- it says -- of the second, as it said of the first
   pub run-echoes : getD (now (s .1 .0)) 34 0 ≡ 0x2D → ⊥
@@ -49,7 +49,9 @@ module _ (κs : Lfts 2) (a : Dens κs run-kinds.ps) (n : ℕ) (s : AtExit (ended
   nothing = rw none (no-lines (limitOf (length (now (a .1 .0)))))
 
   pub run-writes-without-a-record : (now (s .1 .0) ≡ now (a .1 .0) → ⊥) → ⊥
-  run-writes-without-a-record h = h (meets .whole ∙ ap (λ (l : List ℕ). l ++ drop (length l) (now (a .1 .0))) nothing)
+  unfolding listRun
+  run-writes-without-a-record h = h (ap (λ (r : Ran). r .output) meets ∙ ap (λ (l : List ℕ). l ++ drop (length l) (now (a .1 .0))) nothing)
 
   pub run-counts-without-a-record : (n ≡ 0 → ⊥) → ⊥
-  run-counts-without-a-record h = h (meets .number ∙ ap (λ (l : List ℕ). length l) nothing)
+  unfolding listRun
+  run-counts-without-a-record h = h (ap (λ (r : Ran). r .number) meets ∙ ap (λ (l : List ℕ). length l) nothing)

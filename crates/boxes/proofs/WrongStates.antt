@@ -70,6 +70,10 @@ pub controller-fresh-in-18-bytes : RulesOut controller-fresh-kinds.ps controller
 unfolding lengthRefusal if_then_else_
 controller-fresh-in-18-bytes κs a x s e w p = unequal (sym w ∙ p .0 ∙ ap (λ (k : ℕ). if eqb k 17 then 0 else 2) e) refl
 
+pub controller-takes-the-other-record : RulesOut controller-downed-kinds.ps controller-downed-kinds.r controller-downed.Post (λ κs a. (length (now (a .0)) ≡ 17) × (now (a .1 .0) ≡ recordBytes (Console (record { 0 = 0 })))) (λ κs a x s. x ≡ 0)
+unfolding startRefusal lastOf if_then_else_
+controller-takes-the-other-record κs a x s e w p = unequal (sym w ∙ p .0 ∙ (λ i. if eqb (e .0 i) 17 then (ap (lastIn 2) (ap recordRead (e .1) ∙ record-read-back (Console (record { 0 = 0 })) (omega arith))) i .refusal else 2)) refl
+
 pub controller-comes-up-by-itself : RulesOut controller-downed-kinds.ps controller-downed-kinds.r controller-downed.Post (λ κs a. (now (a .0) ≡ replicate 17 0) × (now (a .1 .0) ≡ recordBytes (Controller (record { 0 = 0 })))) (λ κs a x s. getD (now (s .0)) 16 0 ≡ 1)
 unfolding started startRefusal lastOf controller.controllerBytes bytesOf if_then_else_
 controller-comes-up-by-itself κs a x s e w p =

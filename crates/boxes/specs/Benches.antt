@@ -50,11 +50,11 @@ pub record BenchPut : Type 0 where
   pub out : List ℕ
   pub back : List ℕ
 
--- what the bench comes to, with its fields in the state; a refusal leaves the state
+-- what the bench comes to, with its fields in the state; a refusal leaves the state. A bench is no box: nothing is told beside its report
 abbrev pub put : List ℕ → Result → BenchPut
 put s r =
     record {
-      told = told (r .outcome .report) false;
+      told = told (r .outcome .report) false false;
       state = if isRefusal (r .outcome .report) then s else written 49 s (benchBytes (r .outcome .bench));
       out = r .out;
       back = r .back;

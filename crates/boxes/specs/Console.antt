@@ -13,7 +13,7 @@ use Rattle.ends.specs.Fields.{downedConsole}
 use Rattle.ends.specs.declared.fields.Console.{Console}
 use Rattle.alone.specs.ConsoleAlone.{ConsoleAlone, consoleAlone}
 use Rattle.boxes.specs.declared.state.Last.{Last}
-use Rattle.boxes.specs.State.{flag, isRefusal, told, lastIn, written}
+use Rattle.boxes.specs.State.{flag, isRefusal, changed, told, lastIn, written}
 
 -- 0-3 last used J; 4-7 j; 8-11 last; 12 held; 13 up. Numbers big-endian, flags 0 or 1
 abbrev pub front : Console → List ℕ
@@ -65,7 +65,7 @@ pub record ConsoleStep : Type 0 where
 abbrev pub stepped : List ℕ → ConsoleAlone → ConsoleStep
 stepped s a =
     record {
-      told = told (a .outcome .report) (a .outcome .sent);
+      told = told (a .outcome .report) (a .outcome .sent) (changed (consoleAt s .used .0) (a .outcome .console .used .0));
       state = if isRefusal (a .outcome .report) then s else written 30 s (consoleBytes (a .outcome .console));
       reply = a .reply;
     }

@@ -14,7 +14,7 @@ use Rattle.ends.specs.declared.Report.the-variants as report
 use Rattle.ends.specs.declared.fields.Controller.{Controller}
 use Rattle.alone.specs.ControllerAlone.{ControllerAlone, controllerAlone}
 use Rattle.boxes.specs.declared.state.Last.{Last}
-use Rattle.boxes.specs.State.{flag, isRefusal, told, lastIn, written}
+use Rattle.boxes.specs.State.{flag, isRefusal, changed, told, lastIn, written}
 
 -- 0-3 last used I; 4-7 j; 8-11 i; 12-15 last; 16 up. Numbers big-endian, the flag 0 or 1
 unfoldable pub controllerBytes : Controller → List ℕ
@@ -71,7 +71,7 @@ deliveredTo (report.Refused n) m out = out
 abbrev pub stepped : List ℕ → List ℕ → ControllerAlone → ControllerStep
 stepped s out a =
     record {
-      told = told (a .outcome .report) (a .outcome .sent);
+      told = told (a .outcome .report) (a .outcome .sent) (changed (controllerAt s .used .0) (a .outcome .controller .used .0));
       state = if isRefusal (a .outcome .report) then s else written 17 s (controllerBytes (a .outcome .controller));
       reply = a .reply;
       delivered = deliveredTo (a .outcome .report) (a .outcome .message) out;

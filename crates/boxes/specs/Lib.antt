@@ -4,3 +4,4 @@ pub mod Controller
 pub mod Packets
 pub mod Records
 pub mod State
+pub mod Version

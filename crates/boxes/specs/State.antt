@@ -1,6 +1,6 @@
 -- What the states of both ends share: flags, what a step tells, and the last used that a start takes from a number record. Assumes nothing.
-use Prim.Native.Nat.{ℕ}
-use mathlib.Core.Bool.{Bool, true, false}
+use Prim.Native.Nat.{ℕ, _+_, _*_}
+use mathlib.Core.Bool.{Bool, true, false, not}
 use mathlib.Core.List.{List}
 use lib.ListN.{length}
 use lib.Dec.{eqb}
@@ -25,13 +25,21 @@ isRefusal report.Ok = false
 isRefusal report.Lost = false
 isRefusal (report.Refused n) = true
 
--- the byte that a step returns: a refusal's own number; else 0 nothing, 16 delivered, 17 OK, 18 lost, and 128 more where a packet was written
-abbrev pub told : Report → Bool → ℕ
-told report.Nothing sent = if sent then 128 else 0
-told report.Delivered sent = if sent then 144 else 16
-told report.Ok sent = if sent then 145 else 17
-told report.Lost sent = if sent then 146 else 18
-told (report.Refused n) sent = n
+-- whether an end's last used is another, and so its number record, which has to be kept before the packet leaves and before the report is shown
+abbrev pub changed : ℕ → ℕ → Bool
+changed before after = not (eqb before after)
+
+-- told beside a report: 128 where a packet was written, 32 where the number record changed
+unfoldable pub marks : Bool → Bool → ℕ
+marks sent keep = 128 * flag sent + 32 * flag keep
+
+-- the byte that a step returns: a refusal's own number, 1 to 31; else 0 nothing, 64 delivered, 65 OK, 66 lost, and its marks
+abbrev pub told : Report → Bool → Bool → ℕ
+told report.Nothing sent keep = marks sent keep
+told report.Delivered sent keep = 64 + marks sent keep
+told report.Ok sent keep = 65 + marks sent keep
+told report.Lost sent keep = 66 + marks sent keep
+told (report.Refused n) sent keep = n
 
 -- a record of the other end is 15
 unfoldable pub lastOf : ℕ → LastUsed → Last

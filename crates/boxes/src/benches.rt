@@ -123,7 +123,7 @@ pub extern "C" fn nooseless_bench_fresh(
     let report = made.report;
     let after = made.bench;
     keep(state, report, after);
-    told(report, false)
+    told(report, false, false)
 }
 
 // One of the thirteen actions, with any place and any copies.
@@ -154,7 +154,7 @@ pub extern "C" fn nooseless_bench_step(
     let after = done.bench;
     keep(state, report, after);
     hand_over(report, row, delivered);
-    told(report, false)
+    told(report, false, false)
 }
 
 // No channel has a place 64, so that an end that is none has no places.

@@ -14,7 +14,7 @@ ghost use mathlib.Core.Path.{_≡_};
 ghost use lib.ListN.{length, drop};
 ghost use Rattle.ground.specs.Choice.{if_then_else_};
 ghost use Rattle.ends.specs.Fields.{freshConsole, consoleOk};
-ghost use Rattle.boxes.specs.State.{isRefusal, lengthRefusal, written, startRefusal, started, stateRecordRefusal, stateRecordPut};
+ghost use Rattle.boxes.specs.State.{isRefusal, changed, lengthRefusal, written, startRefusal, started, stateRecordRefusal, stateRecordPut};
 ghost use Rattle.boxes.specs.Console.{front, consoleBytes, fieldsAt, noConsole, consoleAt};
 ghost use Rattle.boxes.specs.Console.{lastAt, downedBytes, ConsoleStep, consoleStep};
 
@@ -169,6 +169,13 @@ fn keep(state: &mut [u8], report: Report, after: Console)
     write_console(state, after);
 }
 
+// Whether the number record has to be kept.
+fn changed(before: J, after: J) -> bool
+    ensures { λ r. ⌜ r ≡ changed (before .0) (after .0) ⌝ }
+{
+    before.0 != after.0
+}
+
 // P Q D S C V of a console run alone.
 #[no_mangle]
 pub extern "C" fn nooseless_console_step(
@@ -181,9 +188,10 @@ pub extern "C" fn nooseless_console_step(
     ensures { λ r. ⌜ record { told = r; state = now (state .exit); reply = now (reply .exit) } ≡ consoleStep (now (state .entry)) letter (now (message .entry)) (now (packet .entry)) (now (reply .entry)) ⌝ }
 {
     let c = console_at(state);
+    let used = c.used;
     let done = alone::console::step(c, letter, *message, packet, reply);
     let report = done.report;
     let after = done.console;
     keep(state, report, after);
-    told(report, done.sent)
+    told(report, done.sent, changed(used, after.used))
 }

@@ -14,7 +14,7 @@ ghost use mathlib.Core.Path.{_≡_};
 ghost use lib.ListN.{length};
 ghost use Rattle.ground.specs.Choice.{if_then_else_};
 ghost use Rattle.ends.specs.Fields.{freshController, controllerOk};
-ghost use Rattle.boxes.specs.State.{isRefusal, lengthRefusal, written, startRefusal, started, stateRecordRefusal, stateRecordPut};
+ghost use Rattle.boxes.specs.State.{isRefusal, changed, lengthRefusal, written, startRefusal, started, stateRecordRefusal, stateRecordPut};
 ghost use Rattle.boxes.specs.Controller.{controllerBytes, fieldsAt, noController, controllerAt};
 ghost use Rattle.boxes.specs.Controller.{lastAt, downedBytes, deliveredTo, ControllerStep, controllerStep};
 
@@ -167,6 +167,13 @@ pub(crate) fn hand_over(report: Report, message: [u8; 16], out: &mut [u8; 16])
     }
 }
 
+// Whether the number record has to be kept.
+fn changed(before: I, after: I) -> bool
+    ensures { λ r. ⌜ r ≡ changed (before .0) (after .0) ⌝ }
+{
+    before.0 != after.0
+}
+
 // O K R X Y of a controller run alone.
 #[no_mangle]
 pub extern "C" fn nooseless_controller_step(
@@ -179,11 +186,12 @@ pub extern "C" fn nooseless_controller_step(
     ensures { λ r. ⌜ record { told = r; state = now (state .exit); reply = now (reply .exit); delivered = now (delivered .exit) } ≡ controllerStep (now (state .entry)) letter (now (packet .entry)) (now (reply .entry)) (now (delivered .entry)) ⌝ }
 {
     let c = controller_at(state);
+    let used = c.used;
     let done = alone::controller::step(c, letter, packet, reply);
     let report = done.report;
     let message = done.message;
     let after = done.controller;
     keep(state, report, after);
     hand_over(report, message, delivered);
-    told(report, done.sent)
+    told(report, done.sent, changed(used, after.used))
 }

@@ -6,3 +6,4 @@ pub mod lists;
 pub mod packets;
 pub mod records;
 mod state;
+pub mod version;

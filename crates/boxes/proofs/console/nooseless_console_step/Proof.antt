@@ -11,6 +11,7 @@ nooseless-console-step-spec =
     (λ c κs. search needs)  -- console-at-requires
     (λ c κs. search needs)  -- step-requires
     (λ c κs. search needs)  -- keep-requires
+    (λ c κs. search needs)  -- changed-requires
     (λ c κs. search needs)  -- told-requires
     (λ c. search needs)  -- same-length
     (λ c. search needs)  -- same-length-2

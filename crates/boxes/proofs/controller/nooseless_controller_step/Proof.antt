@@ -12,6 +12,7 @@ nooseless-controller-step-spec =
     (λ c κs. search needs)  -- step-requires
     (λ c κs. search needs)  -- keep-requires
     (λ c κs. search needs)  -- hand-over-requires
+    (λ c κs. search needs)  -- changed-requires
     (λ c κs. search needs)  -- told-requires
     (λ c. search needs)  -- same-length
     (λ c. search needs)  -- same-length-2

@@ -1,0 +1,128 @@
+-- What a controller run alone comes to: a refusal's number is from 1 to 31; without one it leaves a well-formed controller, its fields of their
+-- types.
+use Prim.Native.Nat.{ℕ, _^_, _<_}
+use mathlib.Core.Path.{_≡_, refl, sym, ap, subst, transport}
+use mathlib.Core.Bool.{Bool, true, false, true≢false}
+use mathlib.Core.List.{List}
+use mathlib.Core.Option.{Option, Option·map}
+use native.Mathlib.Omega.{arith}
+use lib.Dec.{eqb}
+use Rattle.ground.specs.Bytes.{Bytes}
+use Rattle.ground.specs.Cell.{isMessage}
+use Rattle.ground.specs.Choice.{if_then_else_}
+use Rattle.ground.specs.First.{refusal}
+use Rattle.ground.proofs.Tests.{by-test}
+use Rattle.wire.specs.Packet.{packetRead}
+use Rattle.wire.specs.declared.Direction.the-variants.{ToController}
+use Rattle.wire.specs.declared.Head.the-variants as head
+use Rattle.wire.specs.declared.ReadHead.{ReadHead}
+use Rattle.wire.specs.declared.ReadHead.the-variants as read-head
+use Rattle.wire.specs.declared.ReadPacket.{ReadPacket}
+use Rattle.protocol.specs.Supply.{counted}
+use Rattle.protocol.specs.Ends as rules
+use Rattle.protocol.specs.Relabel.{in-packet, in-controller-act}
+use Rattle.protocol.specs.Bears.{Controller-bears}
+use Rattle.protocol.specs.Lists.{Opt}
+use Rattle.protocol.specs.WellFormed.{Number, Given, Controller-handed-ok, Controller-ok}
+use Rattle.protocol.proofs.Ends.{controller-refused}
+use Rattle.protocol.proofs.Supply.{counted-lawful}
+use Rattle.protocol.proofs.WellFormed.{controller-acts-ok}
+use Rattle.ends.specs.Controller as controller
+use Rattle.ends.specs.Fields.{controllerOk}
+use Rattle.ends.specs.InRules.{controllerMeans, controllerBack}
+use Rattle.ends.specs.Means.{forController}
+use Rattle.ends.specs.Packets.{readForController}
+use Rattle.ends.proofs.Telling.{number, refused-in-rules}
+use Rattle.ends.specs.declared.Report.the-variants as report
+use Rattle.ends.specs.declared.ForController.{ForController}
+use Rattle.ends.specs.declared.controller.Act.{Act}
+use Rattle.ends.specs.declared.controller.Act.the-variants as act
+use Rattle.ends.specs.declared.fields.Controller.{Controller}
+use Rattle.channels.specs.Packets.{asToController, toControllerRead}
+use Rattle.channels.specs.Table.{goes}
+use Rattle.channels.proofs.Packets.{ToControllerOk, to-controller-coded}
+use Rattle.alone.specs.ControllerAlone.{ControllerAlone, controllerTold, controllerStepped, controllerAlone}
+use Rattle.alone.proofs.ByAct.{controllerCame, controller-by-act}
+use Rattle.bench.proofs.Knowing.{controller-good}
+use Rattle.bench.proofs.Standing.{controller-stands}
+use Rattle.boxes.specs.State.{isRefusal}
+use Rattle.boxes.proofs.BenchKept.{ControllerTyped}
+use Rattle.boxes.proofs.ConsoleLeft.{number-below, used-below}
+use Rattle.boxes.proofs.ControllerTrips.{Typed}
+use Rattle.boxes.proofs.RefusalNumbers.{one, two, twelve, fifteen, rules-number, head-number}
+use Rattle.boxes.proofs.Told.{Refusal}
+
+abbrev handed : List ℕ → Act → rules.ControllerAct (List ℕ)
+handed m a = in-controller-act (λ _. m) (controller.act a)
+
+-- ## The number of a refusal
+
+module _ (c : Controller) (packet reply : List ℕ) where
+  abbrev Numbers : ControllerAlone → Type 0
+  Numbers r = (n : ℕ) → r .outcome .report ≡ report.Refused n → Refusal n
+
+  acts-number : (a : Act) (m : List ℕ) → Numbers (controllerTold (controllerStepped c a m) reply)
+  unfolding controllerStepped
+  acts-number a m n e =
+      let r = refused-in-rules (rules.controller-step counted (controllerMeans c) (handed m a) .report) n e in
+      rules-number (rules.controller-rules counted (controllerMeans c) (handed m a)) n (controller-refused counted (controllerMeans c) (handed m a) n .0 r)
+
+  pub controller-refusal-number : (l : ℕ) → Numbers (controllerAlone c l packet reply)
+  controller-refusal-number l =
+      controller-by-act Refusal one two twelve fifteen c packet reply Numbers (λ k h n e. subst Refusal (ap number e) h) (λ a m came ok. acts-number a m) l (head-number packet)
+
+-- ## What is left without one
+
+-- what was read and goes to the controller bears numbers and cells
+packet-good : (packet : List ℕ) → Bytes packet → goes ToController (packetRead packet .head) ≡ true → ToControllerOk (asToController (packetRead packet .head) (packetRead packet .message))
+unfolding toControllerRead
+packet-good packet b g = to-controller-coded .back packet b g .1
+
+abbrev came-in : List ℕ → ForController → Option (rules.ToController (List ℕ))
+came-in m x = Option·map (in-packet (λ _. m)) (forController x)
+
+head-good : (p : ReadHead) (m : List ℕ) → (goes ToController p ≡ true → ToControllerOk (asToController p m)) → Opt ToControllerOk (came-in m (readForController p))
+head-good (read-head.Refused n) m g = tt
+head-good (read-head.Is (head.NeedI j)) m g = g refl
+head-good (read-head.Is (head.Offer j i)) m g = tt
+head-good (read-head.Is (head.Data i)) m g = g refl
+head-good (read-head.Is (head.Ok i)) m g = tt
+head-good (read-head.Is (head.Lost i)) m g = tt
+head-good (read-head.Is (head.Done i)) m g = g refl
+
+handed-good : (p : ReadPacket) → Opt ToControllerOk (came-in (p .message) (readForController (p .head))) → (a : Act) (m : List ℕ) → controllerCame p a m → Controller-handed-ok counted isMessage (handed m a)
+handed-good p g act.SendOffer m e = tt
+handed-good p g act.SendOk m e = tt
+handed-good p g (act.Take x) m e = transport (λ i. Opt ToControllerOk (came-in (sym (e .1) i) (sym (e .0) i))) g
+handed-good p g act.GoDown m e = tt
+handed-good p g act.ComeBack m e = tt
+
+fields-typed : (u : ℕ) (k : rules.ControllerMode) (up : Bool) → u < 2 ^ 32 → Controller-bears (Number counted) (Given counted u) k → Typed (controllerBack (record { numbers = u; mode = k; up = up }))
+fields-typed u rules.ControllerMode.idle up h b = record { used = h; j = omega arith; i = omega arith; last = omega arith }
+fields-typed u (rules.in-accept j i) up h b = record { used = h; j = number-below j (b .0); i = number-below i (b .1 .0); last = omega arith }
+fields-typed u (rules.in-ack l) up h b = record { used = h; j = omega arith; i = omega arith; last = number-below l (b .0) }
+
+abbrev pub ControllerLeft : Controller → Type 0
+ControllerLeft c = (controllerOk c ≡ true) × Typed c
+
+fields-left : (e : rules.Controller ℕ) → Controller-ok counted e → ControllerLeft (controllerBack e)
+fields-left e w =
+    (controller-stands (e .numbers) (e .mode) (e .up) (w .mode) .0, fields-typed (e .numbers) (e .mode) (e .up) (used-below (e .numbers) (w .numbers)) (w .mode))
+
+module _ (c : Controller) (typed : ControllerTyped c) (packet reply : List ℕ) (bytes : Bytes packet) where
+  abbrev Leaves : ControllerAlone → Type 0
+  Leaves r = isRefusal (r .outcome .report) ≡ false → ControllerLeft (r .outcome .controller)
+
+  acts-leave : (a : Act) (m : List ℕ) → controllerCame (packetRead packet) a m → controllerOk c ≡ true → Leaves (controllerTold (controllerStepped c a m) reply)
+  unfolding controllerStepped rules.controller-step if_then_else_
+  acts-leave a m came y e =
+      let k = refusal (rules.controller-rules counted (controllerMeans c) (handed m a)) in
+      let p = packetRead packet in
+      let given = handed-good p (head-good (p .head) (p .message) (packet-good packet bytes)) a m came in
+      by-test (eqb k 0)
+      (λ z. rw z (fields-left _ (controller-acts-ok counted counted-lawful isMessage (controllerMeans c) (handed m a) (controller-good c y y (typed .used) (typed .j)) given .0)))
+      (λ z. absurd (true≢false (rw z at e)))
+
+  pub controller-left : (l : ℕ) → Leaves (controllerAlone c l packet reply)
+  controller-left l =
+      controller-by-act Refusal one two twelve fifteen c packet reply Leaves (λ k h e. absurd (true≢false e)) acts-leave l (head-number packet)

@@ -1,0 +1,364 @@
+-- Demand 3 of two boxes over any radio, as they run: step by step they do what the rules' ends do over the radio.
+use Prim.Native.Nat.{ℕ, suc, _<_, _^_}
+use mathlib.Core.Path.{_≡_, refl, sym, ap, subst, _∙_}
+use mathlib.Core.Logic.{_⊎_, inl, inr}
+use mathlib.Core.Bool.{Bool, true, false, not}
+use mathlib.Core.Option.{Option, none, some, Option·map, Option·none-ne-some}
+use mathlib.Core.List.{List, [], _∷_, _++_, map, append-nil}
+use native.Mathlib.Omega.{arith}
+use lib.Dec.{eqb}
+use borrow.Author.Tests.{le-leb}
+use Rattle.ground.specs.Cell.{isMessage, spaces}
+use Rattle.ground.specs.First.{refusal}
+use Rattle.wire.specs.Packet.{packetRead, packetBytes}
+use Rattle.wire.specs.declared.I.{I}
+use Rattle.wire.specs.declared.J.{J}
+use Rattle.protocol.specs.Supply.{counted, largest}
+use Rattle.protocol.specs.Letters as letters
+use Rattle.protocol.specs.Letters.{Letter, letter, line, among}
+use Rattle.protocol.specs.Ends as rules
+use Rattle.protocol.specs.Bench as bench
+use Rattle.protocol.specs.Bench.{Asked, at, copies-of, asks}
+use Rattle.protocol.specs.Relabel.{in-packet}
+use Rattle.protocol.specs.Lists.{All, In}
+use Rattle.protocol.specs.Log as log
+use Rattle.protocol.specs.Log.{Right, labelled}
+use Rattle.protocol.specs.Plain.{Plain}
+use Rattle.protocol.specs.Demand3.{row, write, written, unnumbered, shown}
+use Rattle.protocol.specs.Radio as radio
+use Rattle.protocol.specs.Radio.{Link, Happening, aired, keeps, fails, happens, shown-of, rows-shown, rows-left, radio-log}
+use Rattle.protocol.proofs.Supply.{counted-lawful}
+use Rattle.protocol.proofs.Lists.{if-holds}
+use Rattle.protocol.proofs.Relabel.{map-append}
+use Rattle.protocol.proofs.Ends.{console-reports}
+use Rattle.protocol.proofs.Plain.{right-plain}
+use Rattle.protocol.proofs.Radio.{radio-right}
+use Rattle.protocol.proofs.RadioWellFormed.{Link-ok, happens-ok, start-ok}
+use Rattle.protocol.proofs.BenchOnRadio.{place-of}
+use Rattle.ends.specs.InRules.{consoleMeans, consoleBack, controllerMeans, controllerBack, delivered}
+use Rattle.ends.specs.Means.{reportBack, forConsole, forController, toConsole, toController}
+use Rattle.ends.specs.Packets.{toControllerPacket, toConsolePacket, readForConsole, readForController}
+use Rattle.ends.specs.declared.ForConsole.{ForConsole}
+use Rattle.ends.specs.declared.ForConsole.the-variants as for-console
+use Rattle.ends.specs.declared.ForController.{ForController}
+use Rattle.ends.specs.declared.ForController.the-variants as for-controller
+use Rattle.alone.specs.Alone.{replied}
+use Rattle.alone.specs.ConsoleAlone.{ConsoleAlone, consoleRefused, consoleTold, consoleAlone}
+use Rattle.alone.specs.ControllerAlone.{ControllerAlone, controllerRefused, controllerTold, controllerAlone}
+use Rattle.alone.proofs.Calls.{consoleHeard, ConsoleCall, console-call, controllerHeardAs, ControllerCall, controller-call}
+use Rattle.channels.specs.Packets.{toControllerBytes, controllerCame, toControllerRead, toConsoleBytes, consoleCame, toConsoleRead}
+use Rattle.channels.proofs.Packets.{to-controller-coded, to-console-coded}
+use Rattle.bench.specs.Orders.{shownBy}
+use Rattle.bench.proofs.Standing.{ConsoleStands, console-stands, ControllerStands, controller-stands}
+use Rattle.demand3.specs.Boxes.{Boxes, Reach, through, kept-and-cut, cut, Event, at-console, at-controller, leaves, consoleGoes, controllerGoes, after, start, called, consoleShows, controllerShows, shows, allShown, isForConsole, isForController, Honest, AllHonest, BoxesRight}
+use Rattle.demand3.proofs.Lists.{in-map, all-in, map-written}
+
+abbrev pub Row : Type 0
+Row = List ℕ
+
+abbrev pub Ok : Link ℕ Row → Type 0
+Ok k = Link-ok counted isMessage k
+
+-- the boxes that a link of the rules stands for
+abbrev pub boxesOf : Link ℕ Row → Boxes
+boxesOf k =
+    record {
+      console = consoleBack (k .bench .console);
+      console-kept = record { 0 = k .console-kept };
+      controller = controllerBack (k .bench .controller);
+      controller-kept = record { 0 = k .controller-kept };
+      toController = map toControllerBytes (k .bench .toController);
+      toConsole = map toConsoleBytes (k .bench .toConsole);
+    }
+
+-- ## A packet that came was sent: it stands among all that was
+
+console-came : (f : ForConsole) (q : rules.ToConsole) → forConsole f ≡ some q → consoleCame f ≡ q
+console-came for-console.Nothing q e = absurd (Option·none-ne-some q e)
+console-came (for-console.Packet t) q e = let same : toConsole t ≡ q = cc in same
+
+controller-came : (f : ForController) (m : Row) (q : rules.ToController Row) → Option·map (in-packet (λ _. m)) (forController f) ≡ some q
+    → (controllerCame f m ≡ q) × (not (rules.absent (forController f)) ≡ true)
+unfolding rules.absent
+controller-came for-controller.Nothing m q e = absurd (Option·none-ne-some q e)
+controller-came (for-controller.Packet t) m q e = let same : in-packet (λ _. m) (toController t) ≡ q = cc in (same, refl)
+
+module _ (k : Link ℕ Row) (ok : Ok k) (p : List ℕ) where
+  console-finds : (isForConsole p ≡ true → In p (map toConsoleBytes (k .bench .toConsole))) → (q : rules.ToConsole) → consoleHeard p ≡ some q
+      → (x : ℕ) × (at (k .bench .toConsole) x ≡ some q)
+  unfolding toConsoleRead rules.absent
+  console-finds honest q e =
+      let i = in-map toConsoleBytes p (k .bench .toConsole) (honest (ap (λ (o : Option rules.ToConsole). not (rules.absent o)) e)) in
+      let same : q ≡ i .0 = sym (console-came (readForConsole (packetRead p .head)) q e) ∙ ap toConsoleRead (i .1 .1) ∙ to-console-coded .again (i .0) (all-in _ (i .0) (k .bench .toConsole) (ok .downs) (i .1 .0)) in
+      let x = place-of (i .0) (k .bench .toConsole) (i .1 .0) in
+      (x .0, x .1 ∙ ap some (sym same))
+
+  controller-finds : (isForController p ≡ true → In p (map toControllerBytes (k .bench .toController))) → (q : rules.ToController Row) → controllerHeardAs p ≡ some q
+      → (x : ℕ) × (at (k .bench .toController) x ≡ some q)
+  unfolding toControllerRead
+  controller-finds honest q e =
+      let c = controller-came (readForController (packetRead p .head)) (packetRead p .message) q e in
+      let i = in-map toControllerBytes p (k .bench .toController) (honest (c .1)) in
+      let same : q ≡ i .0 = sym (c .0) ∙ ap toControllerRead (i .1 .1) ∙ to-controller-coded .again (i .0) (all-in _ (i .0) (k .bench .toController) (ok .ups) (i .1 .0)) in
+      let x = place-of (i .0) (k .bench .toController) (i .1 .0) in
+      (x .0, x .1 ∙ ap some (sym same))
+
+module _ (k : Link ℕ Row) (ok : Ok k) where
+  console-fine : ConsoleStands (k .bench .console)
+  console-fine = let e = k .bench .console in console-stands (e .numbers) (e .mode) (e .up) (ok .console .mode)
+
+  controller-fine : ControllerStands (k .bench .controller)
+  controller-fine = let e = k .bench .controller in controller-stands (e .numbers) (e .mode) (e .up) (ok .controller .mode)
+
+-- ## What a step shows
+
+-- a console delivers nothing
+abbrev No-delivery : rules.Report Row → Type 0
+No-delivery rules.nothing = Unit {0}
+No-delivery (rules.delivered m) = ⊥
+No-delivery rules.answered-ok = Unit {0}
+No-delivery rules.answered-lost = Unit {0}
+No-delivery (rules.refused n) = Unit {0}
+
+console-delivers-nothing : (e : rules.Console ℕ Row) (act : rules.ConsoleAct Row) → No-delivery (rules.console-step counted isMessage e act .report)
+unfolding rules.console-step
+console-delivers-nothing e act =
+    if-holds (λ (d : rules.ConsoleActed ℕ Row). No-delivery (d .report)) (eqb (refusal (rules.console-rules counted isMessage e act)) 0) _ _
+    (λ p. console-reports No-delivery tt tt tt counted e act) (λ p. tt)
+
+console-shown : (byte x : ℕ) (m : Row) (l : Letter) → letter byte ≡ some l → (r : rules.Report Row) → No-delivery r → shown (bench.action l x 0 m) r ≡ called byte m (reportBack r) []
+console-shown byte x m l e rules.nothing h = rw e
+console-shown byte x m l e (rules.delivered d) h = absurd h
+console-shown byte x m l e rules.answered-ok h = refl
+console-shown byte x m l e rules.answered-lost h = refl
+console-shown byte x m l e (rules.refused n) h = refl
+
+controller-shown : (byte x : ℕ) (l : Letter) → letter byte ≡ some l → (r : rules.Report Row) → shown (bench.action l x 0 []) r ≡ called byte [] (reportBack r) (delivered r)
+controller-shown byte x l e rules.nothing = rw e
+controller-shown byte x l e (rules.delivered d) = refl
+controller-shown byte x l e rules.answered-ok = refl
+controller-shown byte x l e rules.answered-lost = refl
+controller-shown byte x l e (rules.refused n) = refl
+
+-- ## What leaves
+
+to-controller-leaves : (sent : Option (rules.ToController Row)) (y : List ℕ) (l : List (rules.ToController Row))
+    → leaves (not (rules.absent sent)) (replied (Option·map toControllerPacket sent) y) (map toControllerBytes l) ≡ map toControllerBytes (l ++ copies-of 1 sent)
+unfolding rules.absent copies-of toControllerBytes
+to-controller-leaves none y l = ap (map toControllerBytes) (sym (append-nil l))
+to-controller-leaves (some q) y l = sym (map-append toControllerBytes l (q ∷ []))
+
+to-console-leaves : (sent : Option rules.ToConsole) (y : List ℕ) (l : List rules.ToConsole)
+    → leaves (not (rules.absent sent)) (replied (Option·map toConsolePacket sent) y) (map toConsoleBytes l) ≡ map toConsoleBytes (l ++ copies-of 1 sent)
+unfolding rules.absent copies-of toConsoleBytes
+to-console-leaves none y l = ap (map toConsoleBytes) (sym (append-nil l))
+to-console-leaves (some q) y l = sym (map-append toConsoleBytes l (q ∷ []))
+
+-- ## The kept record is the end's
+
+pub console-used : (e : rules.Console ℕ Row) → consoleBack e .used ≡ record { 0 = e .numbers }
+console-used e = of (e .mode) (e .numbers) (e .up)
+  where
+    of : (x : rules.ConsoleMode Row) (n : ℕ) (up : Bool) → consoleBack (record { numbers = n; mode = x; up = up }) .used ≡ record { 0 = n }
+    of rules.ConsoleMode.idle n up = refl
+    of (rules.in-needI j m) n up = refl
+    of (rules.in-send l m) n up = refl
+
+pub controller-used : (e : rules.Controller ℕ) → controllerBack e .used ≡ record { 0 = e .numbers }
+controller-used e = of (e .mode) (e .numbers) (e .up)
+  where
+    of : (x : rules.ControllerMode) (n : ℕ) (up : Bool) → controllerBack (record { numbers = n; mode = x; up = up }) .used ≡ record { 0 = n }
+    of rules.ControllerMode.idle n up = refl
+    of (rules.in-accept j i) n up = refl
+    of (rules.in-ack l) n up = refl
+
+-- between two steps each box has kept what its end has
+pub record Kept (k : Link ℕ Row) : Type 0 where
+  pub console : k .console-kept ≡ k .bench .console .numbers
+  pub controller : k .controller-kept ≡ k .bench .controller .numbers
+
+aired-kept : (k : Link ℕ Row) (x : Asked Row) → Kept k → let o = aired counted isMessage (k .bench) x in Kept (radio.goes-on (o .after) (keeps x (o .after) k))
+unfolding aired keeps
+aired-kept k (Asked.console act) h = record { console = refl; controller = h .controller }
+aired-kept k (Asked.controller act) h = record { console = h .console; controller = refl }
+aired-kept k bench.no-end h = h
+
+fails-kept : (x : Asked Row) (k : Link ℕ Row) → (Kept k → Kept (fails x k))
+unfolding fails
+fails-kept (Asked.console act) k h = record { console = refl; controller = h .controller }
+fails-kept (Asked.controller act) k h = record { console = h .console; controller = refl }
+fails-kept bench.no-end k h = h
+
+kept-fails : (x : Asked Row) (b : bench.Bench ℕ Row) (k : Link ℕ Row) → Kept k → Kept (fails x (keeps x b k))
+unfolding fails keeps
+kept-fails (Asked.console act) b k h = record { console = refl; controller = h .controller }
+kept-fails (Asked.controller act) b k h = record { console = h .console; controller = refl }
+kept-fails bench.no-end b k h = h
+
+pub happens-kept : (k : Link ℕ Row) (h : Happening Row) → Kept k → Kept (happens counted isMessage k h .after)
+unfolding happens
+happens-kept k (radio.acts a) h = aired-kept k (radio.asked k a) h
+happens-kept k (radio.kept-and-cut a) h = kept-fails (radio.asked k a) (aired counted isMessage (k .bench) (radio.asked k a) .after) k h
+happens-kept k (radio.cut a) h = fails-kept (radio.asked k a) k h
+
+-- ## Every event: it shows nothing and changes nothing, or it is what may happen to the rules' ends
+
+abbrev pub Moved : Link ℕ Row → Event → Type 0
+Moved k e =
+    ((shows (boxesOf k) e ≡ none) × (after (boxesOf k) e ≡ boxesOf k))
+    ⊎ ((h : Happening Row) × ((shown-of counted isMessage k h ≡ shows (boxesOf k) e) × (after (boxesOf k) e ≡ boxesOf (happens counted isMessage k h .after))))
+
+module _ (k : Link ℕ Row) (kept : Kept k) (byte : ℕ) (m y : List ℕ) where
+  -- what comes of a console's call, with any reach
+  abbrev Console-moved : Reach → ConsoleAlone → Type 0
+  Console-moved w d =
+      ((consoleShows w byte m d ≡ none) × (consoleGoes w d (boxesOf k) ≡ boxesOf k))
+      ⊎ ((h : Happening Row) × ((shown-of counted isMessage k h ≡ consoleShows w byte m d) × (consoleGoes w d (boxesOf k) ≡ boxesOf (happens counted isMessage k h .after))))
+
+  console-cut : (d : ConsoleAlone) → Console-moved cut d
+  unfolding happens fails asks
+  console-cut d = inr (radio.cut (bench.action letters.C-down 0 0 []), (refl, refl))
+
+  console-unmoved : (w : Reach) (n : ℕ) → Console-moved w (consoleRefused n (consoleBack (k .bench .console)) y)
+  unfolding happens fails keeps aired asks rules.ends
+  console-unmoved through n =
+      inl (refl, λ i. record { console = consoleBack (k .bench .console); console-kept = (console-used (k .bench .console) ∙ ap (λ (z : ℕ). record { 0 = z }) (sym (kept .console))) i; controller = controllerBack (k .bench .controller); controller-kept = record { 0 = k .controller-kept }; toController = map toControllerBytes (k .bench .toController); toConsole = map toConsoleBytes (k .bench .toConsole) })
+  console-unmoved kept-and-cut n =
+      inr (radio.kept-and-cut (bench.action letters.C-down 0 0 []), (refl, ap (λ (u : J). consoleGoes cut (consoleRefused n (consoleBack (k .bench .console)) y) (record { console = consoleBack (k .bench .console); console-kept = u; controller = controllerBack (k .bench .controller); controller-kept = record { 0 = k .controller-kept }; toController = map toControllerBytes (k .bench .toController); toConsole = map toConsoleBytes (k .bench .toConsole) })) (console-used (k .bench .console))))
+  console-unmoved cut n = console-cut (consoleRefused n (consoleBack (k .bench .console)) y)
+
+  console-acted : (w : Reach) (l : Letter) → letter byte ≡ some l → (x : ℕ) (act : rules.ConsoleAct Row) → asks (k .bench) l x m ≡ Asked.console act
+      → Console-moved w (consoleTold (rules.console-step counted isMessage (k .bench .console) act) y)
+  unfolding happens fails keeps aired
+  console-acted through l e x act q =
+      let d = rules.console-step counted isMessage (k .bench .console) act in
+      inr (
+        radio.acts (bench.action l x 0 m),
+        (
+          ap (λ (z : Asked Row). shown (bench.action l x 0 m) (aired counted isMessage (k .bench) z .report)) q ∙ console-shown byte x m l e (d .report) (console-delivers-nothing (k .bench .console) act),
+          (λ i. record { console = consoleBack (d .after); console-kept = console-used (d .after) i; controller = controllerBack (k .bench .controller); controller-kept = record { 0 = k .controller-kept }; toController = to-controller-leaves (d .sent) y (k .bench .toController) i; toConsole = map toConsoleBytes (k .bench .toConsole) })
+              ∙ ap (λ (z : Asked Row). boxesOf (radio.goes-on (aired counted isMessage (k .bench) z .after) (keeps z (aired counted isMessage (k .bench) z .after) k))) (sym q),
+        ),
+      )
+  console-acted kept-and-cut l e x act q =
+      let d = rules.console-step counted isMessage (k .bench .console) act in
+      inr (
+        radio.kept-and-cut (bench.action l x 0 m),
+        (
+          ap (λ (z : Asked Row). radio.fall-of z) q,
+          ap (λ (u : J). consoleGoes cut (consoleTold d y) (record { console = consoleBack (k .bench .console); console-kept = u; controller = controllerBack (k .bench .controller); controller-kept = record { 0 = k .controller-kept }; toController = map toControllerBytes (k .bench .toController); toConsole = map toConsoleBytes (k .bench .toConsole) })) (console-used (d .after))
+              ∙ ap (λ (z : Asked Row). boxesOf (fails z (keeps z (aired counted isMessage (k .bench) z .after) k))) (sym q),
+        ),
+      )
+  console-acted cut l e x act q = console-cut (consoleTold (rules.console-step counted isMessage (k .bench .console) act) y)
+
+module _ (k : Link ℕ Row) (kept : Kept k) (byte : ℕ) (y : List ℕ) where
+  abbrev Controller-moved : Reach → ControllerAlone → Type 0
+  Controller-moved w d =
+      ((controllerShows w byte d ≡ none) × (controllerGoes w d (boxesOf k) ≡ boxesOf k))
+      ⊎ ((h : Happening Row) × ((shown-of counted isMessage k h ≡ controllerShows w byte d) × (controllerGoes w d (boxesOf k) ≡ boxesOf (happens counted isMessage k h .after))))
+
+  controller-cut : (d : ControllerAlone) → Controller-moved cut d
+  unfolding happens fails asks
+  controller-cut d = inr (radio.cut (bench.action letters.X-down 0 0 []), (refl, refl))
+
+  controller-unmoved : (w : Reach) (n : ℕ) → Controller-moved w (controllerRefused n (controllerBack (k .bench .controller)) y)
+  unfolding happens fails keeps aired asks rules.ends
+  controller-unmoved through n =
+      inl (refl, λ i. record { console = consoleBack (k .bench .console); console-kept = record { 0 = k .console-kept }; controller = controllerBack (k .bench .controller); controller-kept = (controller-used (k .bench .controller) ∙ ap (λ (z : ℕ). record { 0 = z }) (sym (kept .controller))) i; toController = map toControllerBytes (k .bench .toController); toConsole = map toConsoleBytes (k .bench .toConsole) })
+  controller-unmoved kept-and-cut n =
+      inr (radio.kept-and-cut (bench.action letters.X-down 0 0 []), (refl, ap (λ (u : I). controllerGoes cut (controllerRefused n (controllerBack (k .bench .controller)) y) (record { console = consoleBack (k .bench .console); console-kept = record { 0 = k .console-kept }; controller = controllerBack (k .bench .controller); controller-kept = u; toController = map toControllerBytes (k .bench .toController); toConsole = map toConsoleBytes (k .bench .toConsole) })) (controller-used (k .bench .controller))))
+  controller-unmoved cut n = controller-cut (controllerRefused n (controllerBack (k .bench .controller)) y)
+
+  controller-acted : (w : Reach) (l : Letter) → letter byte ≡ some l → (x : ℕ) (act : rules.ControllerAct Row) → asks (k .bench) l x [] ≡ Asked.controller act
+      → Controller-moved w (controllerTold (rules.controller-step counted (k .bench .controller) act) y)
+  unfolding happens fails keeps aired
+  controller-acted through l e x act q =
+      let d = rules.controller-step counted (k .bench .controller) act in
+      inr (
+        radio.acts (bench.action l x 0 []),
+        (
+          ap (λ (z : Asked Row). shown (bench.action l x 0 []) (aired counted isMessage (k .bench) z .report)) q ∙ controller-shown byte x l e (d .report),
+          (λ i. record { console = consoleBack (k .bench .console); console-kept = record { 0 = k .console-kept }; controller = controllerBack (d .after); controller-kept = controller-used (d .after) i; toController = map toControllerBytes (k .bench .toController); toConsole = to-console-leaves (d .sent) y (k .bench .toConsole) i })
+              ∙ ap (λ (z : Asked Row). boxesOf (radio.goes-on (aired counted isMessage (k .bench) z .after) (keeps z (aired counted isMessage (k .bench) z .after) k))) (sym q),
+        ),
+      )
+  controller-acted kept-and-cut l e x act q =
+      let d = rules.controller-step counted (k .bench .controller) act in
+      inr (
+        radio.kept-and-cut (bench.action l x 0 []),
+        (
+          ap (λ (z : Asked Row). radio.fall-of z) q,
+          ap (λ (u : I). controllerGoes cut (controllerTold d y) (record { console = consoleBack (k .bench .console); console-kept = record { 0 = k .console-kept }; controller = controllerBack (k .bench .controller); controller-kept = u; toController = map toControllerBytes (k .bench .toController); toConsole = map toConsoleBytes (k .bench .toConsole) })) (controller-used (d .after))
+              ∙ ap (λ (z : Asked Row). boxesOf (fails z (keeps z (aired counted isMessage (k .bench) z .after) k))) (sym q),
+        ),
+      )
+  controller-acted cut l e x act q = controller-cut (controllerTold (rules.controller-step counted (k .bench .controller) act) y)
+
+pub moved : (k : Link ℕ Row) → Ok k → Kept k → (e : Event) → Honest (boxesOf k) e → Moved k e
+moved k ok kept (at-console w byte m p y) h =
+    by _ (console-call (k .bench) (consoleBack (k .bench .console)) (console-fine k ok .0) m p y byte (λ s. console-finds k ok p (h s)))
+  where
+    by : (d : ConsoleAlone) → ConsoleCall (k .bench) (consoleBack (k .bench .console)) (console-fine k ok .0) m p y byte d → Console-moved k kept byte m y w d
+    by d (inl (n, r)) = subst (Console-moved k kept byte m y w) (sym r) (console-unmoved k kept byte m y w n)
+    by d (inr (l, (e, (x, (act, (q, r)))))) =
+        subst (Console-moved k kept byte m y w) (sym (r ∙ ap (λ (c : rules.Console ℕ Row). consoleTold (rules.console-step counted isMessage c act) y) (console-fine k ok .1)))
+        (console-acted k kept byte m y w l e x act q)
+moved k ok kept (at-controller w byte p y) h =
+    by _ (controller-call (k .bench) (controllerBack (k .bench .controller)) (controller-fine k ok .0) [] p y byte (λ s. controller-finds k ok p (h s)))
+  where
+    by : (d : ControllerAlone) → ControllerCall (k .bench) (controllerBack (k .bench .controller)) (controller-fine k ok .0) [] p y byte d → Controller-moved k kept byte y w d
+    by d (inl (n, r)) = subst (Controller-moved k kept byte y w) (sym r) (controller-unmoved k kept byte y w n)
+    by d (inr (l, (e, (x, (act, (q, r)))))) =
+        subst (Controller-moved k kept byte y w) (sym (r ∙ ap (λ (c : rules.Controller ℕ). controllerTold (rules.controller-step counted c act) y) (controller-fine k ok .1)))
+        (controller-acted k kept byte y w l e x act q)
+
+-- ## All of them
+
+abbrev Onto : log.Log Row → Link ℕ Row → List Event → Type 0
+Onto past k es = (hs : List (Happening Row)) × (written (rows-shown counted isMessage k hs) past ≡ written (allShown (boxesOf k) es) past)
+
+onto : (past : log.Log Row) (k : Link ℕ Row) → Ok k → Kept k → (es : List Event) → AllHonest (boxesOf k) es → Onto past k es
+unfolding rows-shown allShown written
+onto past k ok kept [] h = ([], refl)
+onto past k ok kept (e ∷ es) h = by (moved k ok kept e (h .0)) (λ p q x z v. onto p q x z es v)
+  where
+    by : Moved k e → ((p : log.Log Row) (q : Link ℕ Row) → Ok q → Kept q → AllHonest (boxesOf q) es → Onto p q es) → Onto past k (e ∷ es)
+    by (inl (n, s)) more =
+        let m = more past k ok kept (subst (λ (b : Boxes). AllHonest b es) s (h .1)) in
+        let s′ = sym s in
+        let n′ = sym n in
+        (m .0, m .1 ∙ (λ i. written (allShown (s′ i) es) (write (n′ i) past)))
+    by (inr (x, (n, s))) more =
+        let q = happens counted isMessage k x .after in
+        let m = more (write (shown-of counted isMessage k x) past) q (happens-ok counted isMessage counted-lawful k x ok) (happens-kept k x kept) (subst (λ (b : Boxes). AllHonest b es) s (h .1)) in
+        let s′ = sym s in
+        (x ∷ m .0, m .1 ∙ (λ i. written (allShown (s′ i) es) (write (n i) past)))
+
+-- ## The theorem
+
+module _ (j : J) (i : I) (p : j .0 < 2 ^ 32) (q : i .0 < 2 ^ 32) (es : List Event) (honest : AllHonest (start j i) es) where
+  abbrev from : Link ℕ Row
+  from = radio.start (j .0) (i .0)
+
+  started : Onto [] from es
+  unfolding bench.fresh
+  started =
+      onto [] from
+      (start-ok counted isMessage (j .0) (i .0) (le-leb (j .0) largest (omega (arith, p))) (le-leb (i .0) largest (omega (arith, q))))
+      (record { console = refl; controller = refl }) es honest
+
+  pub boxes-right : BoxesRight j i es
+  unfolding bench.fresh
+  boxes-right =
+      let hs = started .0 in
+      let r = radio-right counted isMessage counted-lawful (j .0) (i .0) hs in
+      record {
+        happenings = hs;
+        right = r .right;
+        own = sym (map-written unnumbered (rows-left counted isMessage [] (radio.start (j .0) (i .0)) hs) []) ∙ ap (λ (l : List (Option (log.Event Row))). written l []) (r .own) ∙ started .1;
+      }
+
+  -- in plain words
+  pub boxes-plain : Plain (radio-log counted isMessage (j .0) (i .0) (boxes-right .happenings))
+  boxes-plain = right-plain (radio-log counted isMessage (j .0) (i .0) (boxes-right .happenings)) (boxes-right .right)

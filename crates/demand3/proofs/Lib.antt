@@ -1,0 +1,5 @@
+pub mod BenchForC
+pub mod Boxes
+pub mod BoxesForC
+pub mod ListForC
+pub mod Lists

@@ -1,0 +1,176 @@
+-- Demand 3 of two boxes over any radio, as they run: the console by `alone::console::step`, the controller by `alone::controller::step`, whose own
+-- promises are `consoleAlone` and `controllerAlone`. Assumes nothing.
+use Prim.Native.Nat.{ℕ}
+use mathlib.Core.Path.{_≡_}
+use mathlib.Core.Bool.{Bool, true, false, not}
+use mathlib.Core.Option.{Option, some}
+use mathlib.Core.List.{List, [], _∷_, _++_, map}
+use Rattle.ground.specs.Cell.{isMessage}
+use Rattle.wire.specs.Packet.{packetRead}
+use Rattle.wire.specs.declared.I.{I}
+use Rattle.wire.specs.declared.J.{J}
+use Rattle.protocol.specs.Supply.{counted}
+use Rattle.protocol.specs.Letters.{letter, S-take, R-take}
+use Rattle.protocol.specs.Ends.{absent}
+use Rattle.protocol.specs.Lists.{In}
+use Rattle.protocol.specs.Log as log
+use Rattle.protocol.specs.Log.{Right}
+use Rattle.protocol.specs.Demand3.{written, unnumbered}
+use Rattle.protocol.specs.Radio.{Happening, radio-log}
+use Rattle.ends.specs.Fields.{freshConsole, downedConsole, freshController, downedController}
+use Rattle.ends.specs.Means.{forConsole, forController}
+use Rattle.ends.specs.Packets.{readForConsole, readForController}
+use Rattle.ends.specs.declared.Report.{Report}
+use Rattle.ends.specs.declared.fields.Console.{Console}
+use Rattle.ends.specs.declared.fields.Controller.{Controller}
+use Rattle.alone.specs.ConsoleAlone.{ConsoleAlone, consoleAlone}
+use Rattle.alone.specs.ControllerAlone.{ControllerAlone, controllerAlone}
+use Rattle.bench.specs.Orders.{shownBy}
+
+-- ## The two boxes
+
+-- each end, its number as the box has kept it, and the bytes of every packet that ever left for the other
+pub record Boxes : Type 0 where
+  pub console : Console
+  pub console-kept : J
+  pub controller : Controller
+  pub controller-kept : I
+  pub toController : List (List ℕ)
+  pub toConsole : List (List ℕ)
+
+-- how far a box comes with a step before its power is cut, by the rule that a box has to keep (protocol/specs/Radio.antt): the record is kept, the
+-- report shown and the reply gone; the record is kept, nothing shown or sent; nothing
+pub data Reach : Type 0 where
+  through kept-and-cut cut : Reach
+
+-- a call of an end's step: a letter, a message (the console's), a packet in and a reply buffer, of any bytes and lengths
+pub data Event : Type 0 where
+  at-console : Reach → ℕ → List ℕ → List ℕ → List ℕ → Event
+  at-controller : Reach → ℕ → List ℕ → List ℕ → Event
+
+-- a reply that was written leaves
+abbrev pub leaves : Bool → List ℕ → List (List ℕ) → List (List ℕ)
+leaves false reply sent = sent
+leaves true reply sent = sent ++ (reply ∷ [])
+
+abbrev pub consoleGoes : Reach → ConsoleAlone → Boxes → Boxes
+consoleGoes through d b =
+    record {
+      console = d .outcome .console;
+      console-kept = d .outcome .console .used;
+      controller = b .controller;
+      controller-kept = b .controller-kept;
+      toController = leaves (d .outcome .sent) (d .reply) (b .toController);
+      toConsole = b .toConsole;
+    }
+consoleGoes kept-and-cut d b =
+    record {
+      console = downedConsole (d .outcome .console .used);
+      console-kept = d .outcome .console .used;
+      controller = b .controller;
+      controller-kept = b .controller-kept;
+      toController = b .toController;
+      toConsole = b .toConsole;
+    }
+consoleGoes cut d b =
+    record {
+      console = downedConsole (b .console-kept);
+      console-kept = b .console-kept;
+      controller = b .controller;
+      controller-kept = b .controller-kept;
+      toController = b .toController;
+      toConsole = b .toConsole;
+    }
+
+abbrev pub controllerGoes : Reach → ControllerAlone → Boxes → Boxes
+controllerGoes through d b =
+    record {
+      console = b .console;
+      console-kept = b .console-kept;
+      controller = d .outcome .controller;
+      controller-kept = d .outcome .controller .used;
+      toController = b .toController;
+      toConsole = leaves (d .outcome .sent) (d .reply) (b .toConsole);
+    }
+controllerGoes kept-and-cut d b =
+    record {
+      console = b .console;
+      console-kept = b .console-kept;
+      controller = downedController (d .outcome .controller .used);
+      controller-kept = d .outcome .controller .used;
+      toController = b .toController;
+      toConsole = b .toConsole;
+    }
+controllerGoes cut d b =
+    record {
+      console = b .console;
+      console-kept = b .console-kept;
+      controller = downedController (b .controller-kept);
+      controller-kept = b .controller-kept;
+      toController = b .toController;
+      toConsole = b .toConsole;
+    }
+
+abbrev pub after : Boxes → Event → Boxes
+after b (at-console r l m packet reply) = consoleGoes r (consoleAlone (b .console) l m packet reply) b
+after b (at-controller r l packet reply) = controllerGoes r (controllerAlone (b .controller) l packet reply) b
+
+-- up and idle with any two last used; a box that starts after power loss has had a cut before
+abbrev pub start : J → I → Boxes
+start j i =
+    record {
+      console = freshConsole j;
+      console-kept = j;
+      controller = freshController i;
+      controller-kept = i;
+      toController = [];
+      toConsole = [];
+    }
+
+-- ## What is shown: a put taken, a dose with its cells, an answer, an end gone down or come back
+
+abbrev pub called : ℕ → List ℕ → Report → List ℕ → Option (log.Event (List ℕ))
+called l m report cells = shownBy (record { letter = l; place = 0; copies = 0; message = m }) report cells
+
+abbrev pub consoleShows : Reach → ℕ → List ℕ → ConsoleAlone → Option (log.Event (List ℕ))
+consoleShows through l m d = called l m (d .outcome .report) []
+consoleShows kept-and-cut l m d = some log.ConsoleDown
+consoleShows cut l m d = some log.ConsoleDown
+
+abbrev pub controllerShows : Reach → ℕ → ControllerAlone → Option (log.Event (List ℕ))
+controllerShows through l d = called l [] (d .outcome .report) (d .outcome .message)
+controllerShows kept-and-cut l d = some log.ControllerDown
+controllerShows cut l d = some log.ControllerDown
+
+abbrev pub shows : Boxes → Event → Option (log.Event (List ℕ))
+shows b (at-console r l m packet reply) = consoleShows r l m (consoleAlone (b .console) l m packet reply)
+shows b (at-controller r l packet reply) = controllerShows r l (controllerAlone (b .controller) l packet reply)
+
+unfoldable pub allShown : Boxes → List Event → List (Option (log.Event (List ℕ)))
+allShown b [] = []
+allShown b (e ∷ es) = shows b e ∷ allShown (after b e) es
+
+-- ## THE ONE PREMISE: bytes that read as a packet for that end were sent by the other. Any other bytes, of any length, may come at any time
+
+-- do they read as a packet for the console, for the controller?
+abbrev pub isForConsole : List ℕ → Bool
+isForConsole s = not (absent (forConsole (readForConsole (packetRead s .head))))
+
+abbrev pub isForController : List ℕ → Bool
+isForController s = not (absent (forController (readForController (packetRead s .head))))
+
+-- of the packets that S and R take
+abbrev pub Honest : Boxes → Event → Type 0
+Honest b (at-console r l m packet reply) = letter l ≡ some S-take → isForConsole packet ≡ true → In packet (b .toConsole)
+Honest b (at-controller r l packet reply) = letter l ≡ some R-take → isForController packet ≡ true → In packet (b .toController)
+
+abbrev pub AllHonest : Boxes → List Event → Type 0
+AllHonest b [] = Unit {0}
+AllHonest b (e ∷ es) = Honest b e × AllHonest (after b e) es
+
+-- ## Demand 3: what the boxes show, with the orders numbered, is a right log of what may happen to the rules' ends over a radio
+
+pub record BoxesRight (j : J) (i : I) (es : List Event) : Type 0 where
+  pub happenings : List (Happening (List ℕ))
+  pub right : Right (radio-log counted isMessage (j .0) (i .0) happenings)
+  pub own : map unnumbered (radio-log counted isMessage (j .0) (i .0) happenings) ≡ written (allShown (start j i) es) []

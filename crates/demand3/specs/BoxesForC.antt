@@ -1,0 +1,190 @@
+-- Demand 3 of two boxes over any radio, written in C over the header's entries: by the byte that a step returns, the state and the number record in
+-- bytes. `consoleStep`, `controllerStep`, `stateRecordPut` and `started` are the entries' own promises, so that these calls are the entries'
+-- calls. Assumes nothing.
+use Prim.Native.Nat.{ℕ, _+_, _*_, _/_, _%_}
+use mathlib.Core.Path.{_≡_}
+use mathlib.Core.Bool.{Bool, true}
+use mathlib.Core.Option.{Option, some}
+use mathlib.Core.List.{List, [], _∷_, map}
+use lib.Dec.{eqb}
+use Rattle.ground.specs.Cell.{isMessage}
+use Rattle.ground.specs.Choice.{if_then_else_}
+use Rattle.wire.specs.Record.{recordBytes}
+use Rattle.wire.specs.declared.I.{I}
+use Rattle.wire.specs.declared.J.{J}
+use Rattle.wire.specs.declared.LastUsed.the-variants as last-used
+use Rattle.protocol.specs.Supply.{counted}
+use Rattle.protocol.specs.Letters.{letter, S-take, R-take}
+use Rattle.protocol.specs.Lists.{In}
+use Rattle.protocol.specs.Log as log
+use Rattle.protocol.specs.Log.{Right}
+use Rattle.protocol.specs.Demand3.{written, unnumbered}
+use Rattle.protocol.specs.Radio.{Happening, radio-log}
+use Rattle.ends.specs.Fields.{consoleOk, freshConsole, controllerOk, freshController}
+use Rattle.ends.specs.declared.Report.{Report}
+use Rattle.boxes.specs.State.{stateRecordPut, started}
+use Rattle.boxes.specs.Console as console
+use Rattle.boxes.specs.Console.{ConsoleStep, consoleAt, consoleBytes, consoleStep}
+use Rattle.boxes.specs.Controller as controller
+use Rattle.boxes.specs.Controller.{ControllerStep, controllerAt, controllerBytes, controllerStep}
+use Rattle.demand3.specs.BenchForC.{byteSays}
+use Rattle.demand3.specs.Boxes.{Reach, through, kept-and-cut, cut, leaves, called, isForConsole, isForController}
+
+-- ## The two boxes
+
+-- each end's state, 30 and 17 bytes, its number record as it is kept, 12 bytes, and every packet that ever left for the other
+pub record Boxes : Type 0 where
+  pub console : List ℕ
+  pub console-kept : List ℕ
+  pub controller : List ℕ
+  pub controller-kept : List ℕ
+  pub toController : List (List ℕ)
+  pub toConsole : List (List ℕ)
+
+-- a call of an end's step: a letter, a message (the console's), a packet in, a reply buffer, and the 16 bytes lent for a delivery (the controller's)
+pub data Event : Type 0 where
+  at-console : Reach → ℕ → List ℕ → List ℕ → List ℕ → Event
+  at-controller : Reach → ℕ → List ℕ → List ℕ → List ℕ → Event
+
+-- ## What the byte says: NOOSELESS_KEEP, NOOSELESS_SENT, and the report without them
+
+abbrev pub keepTold : ℕ → Bool
+keepTold t = eqb (t / 32 % 2) 1
+
+abbrev pub sentTold : ℕ → Bool
+sentTold t = eqb (t / 128 % 2) 1
+
+unfoldable pub reportTold : ℕ → Report
+reportTold t = byteSays (t % 32 + 64 * (t / 64 % 2))
+
+-- ## The rule that a box has to keep: the record first, where the byte says so; then the report; then the reply
+
+unfoldable pub consoleKeeps : ConsoleStep → List ℕ → List ℕ
+consoleKeeps t kept =
+    if keepTold (t .told)
+    then stateRecordPut (consoleOk (consoleAt (t .state))) (last-used.Console (consoleAt (t .state) .used)) kept
+    else kept
+
+unfoldable pub controllerKeeps : ControllerStep → List ℕ → List ℕ
+controllerKeeps t kept =
+    if keepTold (t .told)
+    then stateRecordPut (controllerOk (controllerAt (t .state))) (last-used.Controller (controllerAt (t .state) .used)) kept
+    else kept
+
+-- after power loss: down, from the kept record
+abbrev pub consoleStarts : List ℕ → List ℕ → List ℕ
+consoleStarts s kept = started 30 s (console.lastAt kept) (console.downedBytes kept)
+
+abbrev pub controllerStarts : List ℕ → List ℕ → List ℕ
+controllerStarts s kept = started 17 s (controller.lastAt kept) (controller.downedBytes kept)
+
+abbrev pub consoleGoes : Reach → ConsoleStep → Boxes → Boxes
+consoleGoes through t b =
+    record {
+      console = t .state;
+      console-kept = consoleKeeps t (b .console-kept);
+      controller = b .controller;
+      controller-kept = b .controller-kept;
+      toController = leaves (sentTold (t .told)) (t .reply) (b .toController);
+      toConsole = b .toConsole;
+    }
+consoleGoes kept-and-cut t b =
+    record {
+      console = consoleStarts (b .console) (consoleKeeps t (b .console-kept));
+      console-kept = consoleKeeps t (b .console-kept);
+      controller = b .controller;
+      controller-kept = b .controller-kept;
+      toController = b .toController;
+      toConsole = b .toConsole;
+    }
+consoleGoes cut t b =
+    record {
+      console = consoleStarts (b .console) (b .console-kept);
+      console-kept = b .console-kept;
+      controller = b .controller;
+      controller-kept = b .controller-kept;
+      toController = b .toController;
+      toConsole = b .toConsole;
+    }
+
+abbrev pub controllerGoes : Reach → ControllerStep → Boxes → Boxes
+controllerGoes through t b =
+    record {
+      console = b .console;
+      console-kept = b .console-kept;
+      controller = t .state;
+      controller-kept = controllerKeeps t (b .controller-kept);
+      toController = b .toController;
+      toConsole = leaves (sentTold (t .told)) (t .reply) (b .toConsole);
+    }
+controllerGoes kept-and-cut t b =
+    record {
+      console = b .console;
+      console-kept = b .console-kept;
+      controller = controllerStarts (b .controller) (controllerKeeps t (b .controller-kept));
+      controller-kept = controllerKeeps t (b .controller-kept);
+      toController = b .toController;
+      toConsole = b .toConsole;
+    }
+controllerGoes cut t b =
+    record {
+      console = b .console;
+      console-kept = b .console-kept;
+      controller = controllerStarts (b .controller) (b .controller-kept);
+      controller-kept = b .controller-kept;
+      toController = b .toController;
+      toConsole = b .toConsole;
+    }
+
+abbrev pub after : Boxes → Event → Boxes
+after b (at-console r l m packet reply) = consoleGoes r (consoleStep (b .console) l m packet reply) b
+after b (at-controller r l packet reply lent) = controllerGoes r (controllerStep (b .controller) l packet reply lent) b
+
+-- what `nooseless_console_fresh` and `nooseless_controller_fresh` write to a state, and `.._record` to a record
+abbrev pub start : J → I → Boxes
+start j i =
+    record {
+      console = consoleBytes (freshConsole j);
+      console-kept = recordBytes (last-used.Console j);
+      controller = controllerBytes (freshController i);
+      controller-kept = recordBytes (last-used.Controller i);
+      toController = [];
+      toConsole = [];
+    }
+
+-- ## What is shown
+
+abbrev pub consoleShows : Reach → ℕ → List ℕ → ConsoleStep → Option (log.Event (List ℕ))
+consoleShows through l m t = called l m (reportTold (t .told)) []
+consoleShows kept-and-cut l m t = some log.ConsoleDown
+consoleShows cut l m t = some log.ConsoleDown
+
+abbrev pub controllerShows : Reach → ℕ → ControllerStep → Option (log.Event (List ℕ))
+controllerShows through l t = called l [] (reportTold (t .told)) (t .delivered)
+controllerShows kept-and-cut l t = some log.ControllerDown
+controllerShows cut l t = some log.ControllerDown
+
+abbrev pub shows : Boxes → Event → Option (log.Event (List ℕ))
+shows b (at-console r l m packet reply) = consoleShows r l m (consoleStep (b .console) l m packet reply)
+shows b (at-controller r l packet reply lent) = controllerShows r l (controllerStep (b .controller) l packet reply lent)
+
+unfoldable pub allShown : Boxes → List Event → List (Option (log.Event (List ℕ)))
+allShown b [] = []
+allShown b (e ∷ es) = shows b e ∷ allShown (after b e) es
+
+-- ## The one premise, as of the boxes that run alone
+
+abbrev pub Honest : Boxes → Event → Type 0
+Honest b (at-console r l m packet reply) = letter l ≡ some S-take → isForConsole packet ≡ true → In packet (b .toConsole)
+Honest b (at-controller r l packet reply lent) = letter l ≡ some R-take → isForController packet ≡ true → In packet (b .toController)
+
+abbrev pub AllHonest : Boxes → List Event → Type 0
+AllHonest b [] = Unit {0}
+AllHonest b (e ∷ es) = Honest b e × AllHonest (after b e) es
+
+-- ## Demand 3
+
+pub record BoxesForCRight (j : J) (i : I) (es : List Event) : Type 0 where
+  pub happenings : List (Happening (List ℕ))
+  pub right : Right (radio-log counted isMessage (j .0) (i .0) happenings)
+  pub own : map unnumbered (radio-log counted isMessage (j .0) (i .0) happenings) ≡ written (allShown (start j i) es) []

@@ -1,0 +1,3 @@
+pub mod BenchForC
+pub mod Boxes
+pub mod BoxesForC

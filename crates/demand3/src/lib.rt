@@ -1,0 +1,1 @@
+// Demand 3 wherever a person meets it, in specs/ and proofs/. There is no code here.

@@ -1,6 +1,6 @@
 #!/bin/sh
 # ./run: the list program's output and nothing else, however the list comes; a wrong call is 2; what --explain adds is indented, and each
-# refusal has its sentence.
+# refusal has its sentence; on a terminal it plays the listing, explained, in place of waiting; as it proves it counts the crates.
 set -u
 root=$(pwd)
 dir=$(mktemp -d) || exit 1
@@ -18,6 +18,16 @@ prints() { # FILE COMMAND...: the command prints the file, says nothing else and
 refuses() { # ARGUMENT...: a wrong call
     ./run "$@" >"$dir/out" 2>"$dir/err" </dev/null
     [ $? -eq 2 ] && [ ! -s "$dir/out" ] && grep -q '^usage: ./run ' "$dir/err"
+}
+
+helps() {
+    ./run --help >"$dir/out" 2>"$dir/err" </dev/null && grep -q '^usage: ./run ' "$dir/out" && [ ! -s "$dir/err" ]
+}
+
+# typed ARGUMENT...: on a terminal, which ends lines with CR LF. What ./run says itself begins with "run: ".
+typed() {
+    script -qec "./run $*" /dev/null </dev/null | tr -d '\r' >"$dir/out"
+    grep -q '^run: no FILE' "$dir/out" && sed '/^run: /d' "$dir/out" | cmp "$dir/explained" -
 }
 
 fed() { ./run <"$listing"; }
@@ -55,15 +65,20 @@ explains() {
         END { exit left != 0 }' "$dir/explained"
 }
 
-# A project of one file, with a toolchain whose program copies its input, and which fails while there is a file `broken`.
+# A project of three crates and one that isn't asked for, with a toolchain whose program copies its input, and which fails while there is a file `broken`.
 mock() {
     mkdir -p "$dir/mock/crates" "$dir/tools"
     cp run "$dir/mock/run"
-    touch "$dir/mock/crates.txt" "$dir/mock/crates/source"
+    printf '%s\n' '# a comment' ground: 'bench: ground io' 'other: ground' 'list: ground bench libc' >"$dir/mock/crates.txt"
+    touch "$dir/mock/crates/source"
     cat >"$dir/tools/rt" <<'END'
 #!/bin/sh
 echo "$@" >>calls
 [ ! -f broken ] || exit 1
+echo "rt: ground proved (unchanged since it was last proved)"
+echo "fn bench::step: proved"
+echo "rt: bench proved (12 s)"
+echo "rt: list proved (3 s)"
 mkdir -p target/bin
 ln -sf "$(command -v cat)" "target/bin/$2"
 END
@@ -95,6 +110,7 @@ stage "the listing in pieces" prints "$lines" in_pieces
 stage "a call from another folder" prints "$lines" from_elsewhere
 stage "an empty list" prints "$dir/empty" ./run "$dir/empty"
 stage "a list cut in a record" prints "$dir/cut.lines" ./run "$dir/cut"
+stage "--help" helps
 stage "an unknown option" refuses --wrong
 stage "two files" refuses "$listing" "$listing"
 stage "an option after the file" refuses "$listing" --explain
@@ -105,9 +121,24 @@ stage "the explained list" prints crates/explain/stdout ./run --explain crates/e
 stage "the explained full channel" explains "$dir/full"
 stage "its sentence" grep -q '^  refused 09: copies to be added exceed the free places of the target channel$' "$dir/explained"
 
+if script -qec true /dev/null </dev/null >"$dir/out" 2>"$dir/err"; then
+    ./run --explain "$listing" >"$dir/explained"
+    stage "a terminal and no file" typed
+    stage "--explain on a terminal and no file" typed --explain
+else
+    echo "a terminal: not tried, there is no script(1)"
+fi
+
 mock
 stage "the first call builds" mocked 1 0
 stage "what was built is played" cmp "$listing" "$dir/out"
+cat >"$dir/counted" <<'END'
+run: proves and builds the program, 3 crates; the first time takes minutes
+run: 1 of 3 crates: ground proved
+run: 2 of 3 crates: bench proved
+run: 3 of 3 crates: list proved
+END
+stage "the crates are counted" cmp "$dir/counted" "$dir/err"
 stage "the second call doesn't build" mocked 1 0
 touch -t 203501010000 "$dir/mock/crates/source"
 touch "$dir/mock/broken"

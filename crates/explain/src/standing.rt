@@ -8,6 +8,7 @@ use ends::fields::Console;
 use ends::fields::Controller;
 use ends::fields::console_end;
 use ends::fields::controller_end;
+use wire::Direction;
 use wire::Head;
 use wire::ReadHead;
 
@@ -79,38 +80,56 @@ fn print_head(h: Head) {
     say(b")");
 }
 
-// Places below the count hold packets, so that none is passed over.
-fn print_packet(table: &[u8], place: usize) {
-    let head = channels::head_at(table, place);
+// Prints nothing for a place that was refused.
+fn print_part(refusal: u8, part: &[u8]) {
+    if refusal != 0 {
+        return;
+    }
+    let head = wire::read_head(part);
     match head {
         ReadHead::Refused(_) => {}
         ReadHead::Is(h) => print_head(h),
     }
 }
 
-// The packets in the order of their places.
-fn print_packets(table: &[u8], count: usize) {
+// Proved by hand, since a struct holds the part.
+fn print_packet<'a>(
+    dir: Direction,
+    place: usize,
+    out: &'a [u8],
+    sent: usize,
+    back: &'a [u8],
+    returned: usize,
+) {
+    let shown = channels::show(dir, place, out, sent, back, returned);
+    print_part(shown.refusal, shown.part);
+}
+
+// The packets of a channel in the order of their places.
+fn print_packets<'a>(dir: Direction, out: &'a [u8], sent: usize, back: &'a [u8], returned: usize) {
     let mut place = 0;
-    while place < count {
-        print_packet(table, place);
+    while place < 64 {
+        print_packet(dir, place, out, sent, back, returned);
         place += 1;
     }
 }
 
-fn print_channel(name: &[u8], table: &[u8], count: usize) {
-    say(name);
+fn print_empty(count: usize) {
     if count == 0 {
         say(b" empty");
     }
-    print_packets(table, count);
-    say(b"\n");
 }
 
-pub(crate) fn print(b: Bench, out: &[u8], back: &[u8]) {
+pub(crate) fn print<'a>(b: Bench, out: &'a [u8], back: &'a [u8]) {
     let console = b.console;
     let controller = b.controller;
     print_console(console);
     print_controller(controller);
-    print_channel(b"  to controller:", out, b.sent);
-    print_channel(b"  to console:", back, b.returned);
+    say(b"  to controller:");
+    print_empty(b.sent);
+    print_packets(Direction::ToController, out, b.sent, back, b.returned);
+    say(b"\n  to console:");
+    print_empty(b.returned);
+    print_packets(Direction::ToConsole, out, b.sent, back, b.returned);
+    say(b"\n");
 }

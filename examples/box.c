@@ -22,32 +22,38 @@ uint64_t clock_now(void) {
     return (uint64_t)t.tv_sec * 1000000000u + (uint64_t)t.tv_nsec;
 }
 
-int record_load(struct record_file *file) {
-    int f = open(file->path, O_RDONLY);
-    if (f < 0) {
-        if (errno == ENOENT) return 0;
-        fail(file->path);
-    }
-    ssize_t n = read(f, file->bytes, sizeof file->bytes);
-    close(f);
-    if (n != (ssize_t)sizeof file->bytes) fail(file->path);
+int due(uint64_t *next, uint64_t period) {
+    uint64_t now = clock_now();
+    if (now < *next) return 0;
+    *next = now + period;
     return 1;
 }
 
-void record_keep(struct record_file *file, const uint8_t bytes[NOOSELESS_RECORD]) {
+size_t record_load(const char *path, uint8_t record[NOOSELESS_RECORD]) {
+    int f = open(path, O_RDONLY);
+    if (f < 0) {
+        if (errno == ENOENT) return 0;
+        fail(path);
+    }
+    ssize_t n = read(f, record, NOOSELESS_RECORD);
+    close(f);
+    if (n < 0) fail(path);
+    return (size_t)n;
+}
+
+void record_keep(const char *path, const uint8_t record[NOOSELESS_RECORD]) {
     char aside[64];
-    if ((size_t)snprintf(aside, sizeof aside, "%s.new", file->path) >= sizeof aside) fail("record name");
+    if ((size_t)snprintf(aside, sizeof aside, "%s.new", path) >= sizeof aside) fail("record name");
     int f = open(aside, O_WRONLY | O_CREAT | O_TRUNC, 0644);
     if (f < 0) fail(aside);
-    if (write(f, bytes, NOOSELESS_RECORD) != NOOSELESS_RECORD) fail(aside);
+    if (write(f, record, NOOSELESS_RECORD) != NOOSELESS_RECORD) fail(aside);
     if (fsync(f) != 0) fail(aside);
     if (close(f) != 0) fail(aside);
-    if (rename(aside, file->path) != 0) fail(file->path);
+    if (rename(aside, path) != 0) fail(path);
     int folder = open(".", O_RDONLY);
     if (folder < 0) fail("folder");
     if (fsync(folder) != 0) fail("folder");
     close(folder);
-    memcpy(file->bytes, bytes, NOOSELESS_RECORD);
 }
 
 int log_open(const char *path) {
@@ -87,8 +93,8 @@ void radio_send(int s, const char *to, const uint8_t *packet, size_t length) {
     (void)!sendto(s, packet, length, MSG_DONTWAIT, (const struct sockaddr *)&a, sizeof a);
 }
 
-int radio_receive(int s, uint8_t *packet, size_t room) {
-    ssize_t n = recv(s, packet, room, MSG_DONTWAIT);
+int radio_receive(int s, uint8_t *packet, int room) {
+    ssize_t n = recv(s, packet, (size_t)room, MSG_DONTWAIT);
     return n < 0 ? -1 : (int)n;
 }
 

@@ -13,17 +13,12 @@ _Noreturn void fail(const char *what);
 /* Nanoseconds of the machine's one steady clock; comparable between processes. */
 uint64_t clock_now(void);
 
-/* The number record of a box: in memory as it stands in the file. */
-struct record_file {
-    const char *path;
-    uint8_t bytes[NOOSELESS_RECORD];
-};
+/* Reads the number record in a file: its length, 0 if there is no such file. */
+size_t record_load(const char *path, uint8_t record[NOOSELESS_RECORD]);
 
-/* Whether there is a record; if so it is in `bytes`. */
-int record_load(struct record_file *file);
-
-/* Returns once the record is in the file and would be after a power cut: written aside, synced, renamed, the folder synced. */
-void record_keep(struct record_file *file, const uint8_t bytes[NOOSELESS_RECORD]);
+/* Returns once the record is in the file and would be after a power cut: written aside (with .new behind the name), synced, renamed, the
+ * folder synced. */
+void record_keep(const char *path, const uint8_t record[NOOSELESS_RECORD]);
 
 /* A log whose lines are appended by one write each, so that a cut leaves whole lines. */
 int log_open(const char *path);
@@ -33,7 +28,10 @@ void log_line(int log, uint64_t when, const char *word, const uint8_t *cells);
 int radio_socket(const char *own);
 void radio_send(int socket, const char *to, const uint8_t *packet, size_t length);
 /* Bytes received, -1 with none there. */
-int radio_receive(int socket, uint8_t *packet, size_t room);
+int radio_receive(int socket, uint8_t *packet, int room);
+
+/* Whether the time is there; then it is set to `period` nanoseconds from now. */
+int due(uint64_t *next, uint64_t period);
 
 /* Waits for one of two descriptors (the second may be -1) to be readable, at most `ms`. */
 void wait_for(int a, int b, int ms);

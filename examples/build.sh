@@ -1,24 +1,29 @@
 #!/bin/sh
-# Builds the two boxes, the radio and what conducts and judges a rehearsal: build.sh LIB FOLDER [--broken]
-# LIB is the folder that ./build-lib fills. With --broken the controller forgets its numbers.
+# Builds the two boxes, the radio and what conducts and judges a rehearsal: build.sh LIB FOLDER [--broken | --late]
+# LIB is the folder that ./build-lib fills. With --broken the controller forgets its numbers, with --late it keeps them too late.
 set -eu
 if [ $# -lt 2 ]; then
-    echo "usage: build.sh LIB FOLDER [--broken]" >&2
+    echo "usage: build.sh LIB FOLDER [--broken | --late]" >&2
     exit 2
 fi
 lib=$1
 to=$2
 here=$(dirname "$0")
-forgetful=
-[ "${3:-}" = --broken ] && forgetful=-DFORGETFUL
+mistake=
+case ${3:-} in
+--broken) mistake=-DFORGETFUL ;;
+--late) mistake=-DLATE ;;
+esac
 cc=${CC:-cc}
 flags="-std=c11 -D_GNU_SOURCE -O2 -Wall -Wextra -Werror -I$lib"
 mkdir -p "$to"
-for program in console_box controller_box radio conduct judge; do
-    define=
-    [ "$program" = controller_box ] && define=$forgetful
-    case $program in
-    judge) "$cc" $flags -o "$to/$program" "$here/$program.c" ;;
-    *) "$cc" $flags $define -o "$to/$program" "$here/$program.c" "$here/box.c" "$lib/libnooseless.a" ;;
-    esac
-done
+build() {
+    program=$1
+    shift
+    "$cc" $flags -o "$to/$program" "$here/$program.c" "$@"
+}
+build judge
+build radio "$here/box.c"
+build conduct "$here/box.c" "$lib/libnooseless.a"
+build console_box "$here/box.c" "$lib/console_loop.c" "$lib/libnooseless.a"
+build controller_box $mistake "$here/box.c" "$lib/controller_loop.c" "$lib/libnooseless.a"

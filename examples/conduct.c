@@ -1,6 +1,7 @@
 /*
- * Conducts a rehearsal in the working folder: starts the radio and both boxes, feeds orders to the console, and cuts the power (kill -9) of
- * a box at moments by chance until there were enough cuts. Each cut is written to cuts.log.
+ * Conducts a rehearsal in the working folder: makes both boxes (their first number records), starts the radio and the boxes, feeds orders to
+ * the console, and cuts the power (kill -9) of a box at moments by chance until there were enough cuts. One cut in four waits for the box to
+ * begin keeping its record. Each cut is written to cuts.log, with "keeping" where it fell before the record was in its place.
  *
  * conduct PROGRAMS CUTS SEED SECONDS
  */
@@ -23,6 +24,7 @@
 
 struct process {
     const char *name;
+    const char *aside; /* where a record is until it is kept */
     pid_t id;
 };
 
@@ -35,6 +37,13 @@ static void rest(uint64_t nanoseconds) {
     struct timespec t = {(time_t)(nanoseconds / 1000000000u), (long)(nanoseconds % 1000000000u)};
     while (nanosleep(&t, &t) != 0 && errno == EINTR) {
     }
+}
+
+/* Who makes a box keeps the first record in it. */
+static void make(const char *path, uint8_t end) {
+    uint8_t record[NOOSELESS_RECORD];
+    if (nooseless_write_record(record, sizeof record, end, 0) != 0) fail(path);
+    record_keep(path, record);
 }
 
 static void start(struct process *p) {
@@ -83,6 +92,23 @@ static void run_for(uint64_t nanoseconds) {
     } while (clock_now() < end);
 }
 
+/* Until the box begins to keep its record, at most so long. */
+static void run_until_keeping(const struct process *p, uint64_t nanoseconds) {
+    uint64_t end = clock_now() + nanoseconds;
+    while (clock_now() < end) {
+        feed();
+        for (int looks = 0; looks < 100; looks++)
+            if (access(p->aside, F_OK) == 0) return;
+    }
+}
+
+/* Power cut; what was aside and not yet kept is gone with it. */
+static void cut_and_log(int cuts, struct process *p) {
+    uint64_t when = clock_now();
+    cut(p);
+    log_line(cuts, when, p->name, unlink(p->aside) == 0 ? (const uint8_t *)"keeping" : NULL);
+}
+
 /* One in five comes within 2 milliseconds, while the box starts; the others within 30. */
 static uint64_t until_next(void) { return below(&chance, (below(&chance, 5) == 0 ? 2 : 30) * MILLI); }
 
@@ -98,7 +124,10 @@ int main(int argc, char **argv) {
     uint64_t limit = clock_now() + strtoull(argv[4], NULL, 10) * 1000u * MILLI;
     if (pipe(orders) != 0) fail("pipe");
     int cuts = log_open("cuts.log");
-    struct process radio = {"radio", 0}, console = {"console_box", 0}, controller = {"controller_box", 0};
+    struct process radio = {"radio", "radio.new", 0}, console = {"console_box", "console.record.new", 0},
+                   controller = {"controller_box", "controller.record.new", 0};
+    make("console.record", NOOSELESS_CONSOLE);
+    make("controller.record", NOOSELESS_CONTROLLER);
     start(&radio);
     rest(50 * MILLI);
     start(&console);
@@ -109,10 +138,8 @@ int main(int argc, char **argv) {
         run_for(until_next());
         uint64_t who = below(&chance, 10);
         struct process *hit[2] = {who < 5 ? &controller : &console, who == 9 ? &controller : NULL};
-        for (int i = 0; i < 2 && hit[i]; i++, done++) {
-            log_line(cuts, clock_now(), hit[i]->name, NULL);
-            cut(hit[i]);
-        }
+        if (below(&chance, 4) == 0) run_until_keeping(hit[0], 30 * MILLI);
+        for (int i = 0; i < 2 && hit[i]; i++, done++) cut_and_log(cuts, hit[i]);
         rest(below(&chance, 4 * MILLI));
         for (int i = 0; i < 2 && hit[i]; i++) start(hit[i]);
     }

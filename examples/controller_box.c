@@ -1,62 +1,64 @@
 /*
- * A controller box: writes each dose to doses.log before it replies. Its number record is the file controller.record; what it sends goes
- * to the socket from-controller, what it hears comes to the socket controller.
+ * A controller box around the controller's loop: writes each dose to doses.log. Its number record is the file controller.record; what it
+ * sends goes to the socket from-controller, what it hears comes to the socket controller.
  *
- * Built with FORGETFUL it is the mistake that a rehearsal has to find: it keeps no record, and its counter starts again.
+ * Two mistakes that a rehearsal has to find. Built with FORGETFUL it keeps no record; built with LATE it keeps it, but after the next
+ * packet has left.
  */
 #include <string.h>
 
 #include "box.h"
+#include "loops.h"
 
 #define REPEAT 3000000u /* nanoseconds */
 
-static uint8_t state[NOOSELESS_CONTROLLER_STATE];
-static uint8_t reply[NOOSELESS_PACKET];
-static struct record_file record = {"controller.record", {0}};
-static int doses;
-static int air;
+static int doses, air;
+static uint64_t next;
 
-/* One action: the record is kept before anything is sent, and a dose is written down before its reply leaves. */
-static uint8_t act(uint8_t letter, const uint8_t *packet, size_t length) {
-    uint8_t cells[NOOSELESS_MESSAGE];
-    uint8_t told = nooseless_controller_step(state, sizeof state, letter, packet, length, reply, sizeof reply, cells);
-    if (NOOSELESS_IS_REFUSAL(told)) return told;
-    uint8_t now[NOOSELESS_RECORD];
-    if (nooseless_controller_record(state, sizeof state, now, sizeof now) != 0) fail("controller.record");
-#ifndef FORGETFUL
-    if (memcmp(now, record.bytes, sizeof now) != 0) record_keep(&record, now);
+size_t controller_load(uint8_t record[NOOSELESS_RECORD]) {
+    log_line(doses, clock_now(), "BACK", NULL);
+    return record_load("controller.record", record);
+}
+
+int controller_hear(uint8_t *bytes, int room) { return radio_receive(air, bytes, room); }
+int controller_due(void) { return due(&next, REPEAT); }
+void controller_dose(const uint8_t order[NOOSELESS_MESSAGE]) { log_line(doses, clock_now(), "DOSE", order); }
+
+#if defined FORGETFUL
+void controller_keep(const uint8_t record[NOOSELESS_RECORD]) { (void)record; }
+static void sent(void) {}
+#elif defined LATE
+static uint8_t waiting[NOOSELESS_RECORD];
+static int late;
+
+void controller_keep(const uint8_t record[NOOSELESS_RECORD]) {
+    memcpy(waiting, record, sizeof waiting);
+    late = 1;
+}
+static void sent(void) {
+    if (late) record_keep("controller.record", waiting);
+    late = 0;
+}
+#else
+void controller_keep(const uint8_t record[NOOSELESS_RECORD]) { record_keep("controller.record", record); }
+static void sent(void) {}
 #endif
-    if (NOOSELESS_REPORT(told) == NOOSELESS_DELIVERED) log_line(doses, clock_now(), "DOSE", cells);
-    if (told & NOOSELESS_SENT) radio_send(air, "from-controller", reply, sizeof reply);
-    return told;
+
+void controller_send(const uint8_t packet[NOOSELESS_PACKET]) {
+    radio_send(air, "from-controller", packet, NOOSELESS_PACKET);
+    sent();
 }
 
-static void start(void) {
-    if (record_load(&record)) {
-        log_line(doses, clock_now(), "BACK", NULL);
-        if (nooseless_controller_downed(state, sizeof state, record.bytes, sizeof record.bytes) != 0) fail("controller.record");
-        if (act('Y', reply, 0) != 0) fail("Y");
-    } else {
-        uint8_t now[NOOSELESS_RECORD];
-        if (nooseless_controller_fresh(state, sizeof state, 0) != 0) fail("fresh");
-        if (nooseless_controller_record(state, sizeof state, now, sizeof now) != 0) fail("record");
-        record_keep(&record, now);
-    }
-}
+/* A rehearsal goes on and tells of it at its end. */
+void controller_alarm(void) { log_line(doses, clock_now(), "ALARM", NULL); }
 
 int main(void) {
     doses = log_open("doses.log");
     air = radio_socket("controller");
-    start();
-    uint64_t next = 0;
+    if (nooseless_version() != NOOSELESS_VERSION) fail("an archive of another header");
+    if (controller_start() != 0) fail("controller.record: call a person");
     for (;;) {
         wait_for(air, -1, 1);
-        uint8_t packet[NOOSELESS_PACKET + 1];
-        int n = radio_receive(air, packet, sizeof packet);
-        if (n >= 0) act('R', packet, (size_t)n);
-        if (clock_now() >= next) {
-            if (act('O', reply, 0) == NOOSELESS_OTHER_MODE) act('K', reply, 0);
-            next = clock_now() + REPEAT;
-        }
+        controller_turn();
     }
 }

@@ -2,7 +2,8 @@
  * Judges a rehearsal by what the boxes wrote down: the console's rows.log, the controller's doses.log, and cuts.log.
  *
  * judge CUTS ORDERS OKS LOSTS: at least so many of each, or the rehearsal says nothing.
- * Ends with 0, with 1 if demand 3 is broken, with 2 if a log can't be read, with 3 if too little happened.
+ * Ends with 0, with 1 if demand 3 is broken, with 2 if a log can't be read, with 3 if too little happened, with 4 if the controller met
+ * a number that it had not given: its record went back, though no order has come to harm yet.
  */
 #include <inttypes.h>
 #include <stdint.h>
@@ -24,7 +25,7 @@ static struct order *orders;
 static size_t known;
 static uint64_t *backs;
 static size_t back_count;
-static unsigned long put, oks, losts, doses, cuts, twice, astray, unasked, early_ok, after_lost, no_reason;
+static unsigned long put, oks, losts, doses, cuts, twice, astray, unasked, early_ok, after_lost, no_reason, keeping, alarms;
 
 static _Noreturn void unreadable(const char *what) {
     fprintf(stderr, "judge: %s can't be read\n", what);
@@ -117,6 +118,10 @@ static void read_doses(void) {
             backs[back_count++] = l.when;
             continue;
         }
+        if (strcmp(l.word, "ALARM") == 0) {
+            alarms++;
+            continue;
+        }
         if (strcmp(l.word, "DOSE") != 0) unreadable("doses.log");
         size_t n = number_of(l.cells);
         struct order *o = order(n);
@@ -148,7 +153,8 @@ static void judge_answers(void) {
 static void count_cuts(void) {
     FILE *f = opened("cuts.log");
     struct line l;
-    while (next_line(f, &l, "cuts.log")) cuts++;
+    for (; next_line(f, &l, "cuts.log"); cuts++)
+        if (strcmp(l.cells, "keeping") == 0) keeping++;
     fclose(f);
 }
 
@@ -161,13 +167,15 @@ int main(int argc, char **argv) {
     read_rows();
     read_doses();
     judge_answers();
-    printf("%lu cuts, %lu orders, %lu doses, %lu OK, %lu lost, %lu unanswered\n", cuts, put, doses, oks, losts,
-           put - oks - losts);
+    printf("%lu cuts, %lu of them between a step and its keeping; %lu orders, %lu doses, %lu OK, %lu lost, %lu unanswered\n", cuts,
+           keeping, put, doses, oks, losts, put - oks - losts);
     printf("delivered twice %lu, out of order %lu, OK without delivery %lu, delivered after lost %lu\n", twice, astray,
            early_ok, after_lost);
     printf("delivered or answered unasked %lu, lost with no restart of the controller since the put %lu\n", unasked,
            no_reason);
+    printf("numbers that the controller had not given %lu\n", alarms);
     if (twice + astray + early_ok + after_lost + unasked + no_reason > 0) return 1;
+    if (alarms > 0) return 4;
     if (cuts < strtoul(argv[1], NULL, 10) || put < strtoul(argv[2], NULL, 10) || oks < strtoul(argv[3], NULL, 10) ||
         losts < strtoul(argv[4], NULL, 10)) {
         printf("too little happened for this to say anything\n");

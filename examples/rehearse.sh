@@ -1,18 +1,21 @@
 #!/bin/sh
 # A rehearsal with real power cuts: two boxes and a radio as processes, kill -9 at moments by chance, and demand 3 judged by what the boxes
-# wrote down. rehearse.sh [--broken] [CUTS [SEED]]; 10,000 cuts are the long one. The seed decides every choice, not the machine's timing.
-# Ends with 0; 1 if demand 3 is broken; 2 if it can't be run; 3 if too little happened.
+# wrote down. rehearse.sh [--broken | --late] [CUTS [SEED]]; 10,000 cuts are the long one. The seed decides every choice, not the machine's
+# timing. With --broken the controller keeps no number record, with --late it keeps it after the packet has left.
+# Ends with 0; 1 if demand 3 is broken; 2 if it can't be run; 3 if too little happened; 4 if the controller met numbers that it had not given.
 set -eu
 broken=
-if [ "${1:-}" = --broken ]; then
-    broken=--broken
+case ${1:-} in
+--broken | --late)
+    broken=$1
     shift
-fi
+    ;;
+esac
 cuts=${1:-300}
 seed=${2:-1}
 case $cuts$seed in
 *[!0-9]*)
-    echo "usage: rehearse.sh [--broken] [CUTS [SEED]]" >&2
+    echo "usage: rehearse.sh [--broken | --late] [CUTS [SEED]]" >&2
     exit 2
     ;;
 esac
@@ -31,4 +34,4 @@ cd "$place"
 status=0
 "$bin/conduct" "$bin" "$cuts" "$seed" $((30 + cuts / 20)) || status=$?
 [ "$status" -ne 2 ] || exit 2
-"$bin/judge" "$cuts" $((cuts / 2)) $((cuts / 4)) $((cuts / 40))
+"$bin/judge" "$cuts" $((cuts / 4)) $((cuts / 8)) $((cuts / 100))

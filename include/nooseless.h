@@ -1,13 +1,26 @@
 /*
  * Nooseless for C: packets, number records, each end of the link run alone in its box, and a bench that holds both ends and both
- * channels, with the runner of a list of actions.
+ * channels, with the runner of a list of actions. Beside this file, console_loop.c and controller_loop.c are the loop of each box, and
+ * loops.h what a box brings along for it.
  *
  * Every entry takes any bytes and any numbers. It returns one byte: 0, a refusal from 1 to 15, or what a step tells; the runner
- * returns a number of bytes. A refusal leaves every lent buffer byte for byte. Each entry is proved to do so, and to do what its
- * lines below say.
+ * returns a number of bytes, nooseless_version a version. A refusal leaves every lent buffer byte for byte. Each entry is proved to
+ * do so, and to do what its lines below say. What a box does around them is C, and yours: THE RULE below is what it has to keep.
  *
  * The caller owes what C always owes: a pointer that is good for its length, not NULL even where that is 0, and, where it is
- * lent to be written, no overlap with another buffer of the same call. No entry keeps a pointer, allocates, or waits.
+ * lent to be written, no overlap with another buffer of the same call. That holds of every pointer, also of one that the letter
+ * does not use.
+ *
+ * Threads and interrupts: an entry uses what it is lent, its stack and constants. It has no variable of its own, keeps no pointer,
+ * allocates nothing, waits for nothing and takes no lock. So it may be called from any thread and any interrupt, several calls at a
+ * time, if no buffer that one of them writes is lent to another of them meanwhile.
+ *
+ * Machine: x86-64, called as its System V ABI has it, the 128 bytes below the stack pointer and the SSE registers included. Bytes may
+ * lie anywhere; uint32_t and size_t where C lets them lie. The archive needs memmove and memset from outside, for bench and runner
+ * alone, and nothing else.
+ *
+ * Stack, arguments and return address included, as measured and held by the tests: nooseless_bench_step at most 2,048 bytes,
+ * nooseless_run at most 6,144, each other entry at most 512. Nothing recurses.
  */
 #ifndef NOOSELESS_H
 #define NOOSELESS_H
@@ -18,6 +31,13 @@
 #ifdef __cplusplus
 extern "C" {
 #endif
+
+/* ---- Version: it changes with what an entry takes, gives or means. A box that starts can see that header and archive agree ---- */
+
+#define NOOSELESS_VERSION 1
+
+/* The NOOSELESS_VERSION of the archive. */
+uint32_t nooseless_version(void);
 
 /* ---- Lengths in bytes ---- */
 
@@ -31,36 +51,71 @@ extern "C" {
 #define NOOSELESS_LIST_RECORD 21
 #define NOOSELESS_LINE 27
 
-/* ---- Refusals. The first that applies, in this order: 1, 2, 12, 13, 14, 15, 11, 10, 4 or 5, 6, 8, 3, 7, 9. Each entry below names
- * those that it gives, in their order, without NOOSELESS_. 3, 9 and 10 speak of places and copies. ---- */
+/* ---- Letters: what a step is asked to do ----
+ *
+ * A console is idle, in needI (an order put, no permission for it yet) or in send (it has one). A controller is idle, in accept (a
+ * permission offered) or in ack (an order delivered, the console may not know). "On a timer" is what a box repeats for as long as
+ * that mode lasts: packets get lost, and without repeats nothing goes on. Any period does; none is unsafe.
+ */
+
+enum nooseless_letter {
+    /* the console's */
+    NOOSELESS_PUT = 'P',           /* idle: hold the order in `message`, with a new number. It is not delivered yet */
+    NOOSELESS_SEND_NEEDI = 'Q',    /* on a timer in needI: ask for a permission */
+    NOOSELESS_SEND_DATA = 'D',     /* on a timer in send: send the order */
+    NOOSELESS_CONSOLE_TAKE = 'S',  /* bytes came in: take them */
+    NOOSELESS_CONSOLE_DOWN = 'C',  /* go down, keeping all; a power cut needs no letter */
+    NOOSELESS_CONSOLE_BACK = 'V',  /* down: come back, idle; the order that was held is never answered */
+    /* the controller's */
+    NOOSELESS_SEND_OFFER = 'O',    /* on a timer in accept: offer the permission */
+    NOOSELESS_SEND_OK = 'K',       /* on a timer in ack: say again that the order was delivered */
+    NOOSELESS_CONTROLLER_TAKE = 'R', /* bytes came in: take them */
+    NOOSELESS_CONTROLLER_DOWN = 'X', /* go down, keeping all; a power cut needs no letter */
+    NOOSELESS_CONTROLLER_BACK = 'Y', /* down: come back, idle; permission and last order forgotten */
+    /* the bench's besides */
+    NOOSELESS_LOSE_TO_CONTROLLER = 'L', /* lose a packet on its way to the controller */
+    NOOSELESS_LOSE_TO_CONSOLE = 'M'     /* lose a packet on its way to the console */
+};
+
+/* ---- Refusals: nothing was done and no buffer written ----
+ *
+ * The first that applies, in this order: 1, 2, 12, 13, 14, 15, 11, 10, 4 or 5, 6, 8, 3, 7, 9. Each entry below names those that it
+ * gives, in their order, without NOOSELESS_. 3, 9 and 10 speak of places and copies. What a box's loop does with one stands behind
+ * the dash.
+ */
 
 enum nooseless_refusal {
-    NOOSELESS_NO_ACTION = 1,      /* a letter that is no action here */
-    NOOSELESS_ILL_FORMED = 2,     /* a state or a table not well formed, or of another length */
+    NOOSELESS_NO_ACTION = 1,      /* a letter that is no action here - a mistake in the box's program */
+    NOOSELESS_ILL_FORMED = 2,     /* a state or a table not well formed, or of another length - the state was damaged: stop, and start
+                                     from the kept record as after power loss */
     NOOSELESS_NO_PLACE = 3,       /* place not below the count */
-    NOOSELESS_IS_DOWN = 4,        /* P Q D S with the console down, O K R with the controller down */
-    NOOSELESS_IS_UP = 5,          /* V or Y with that end up */
-    NOOSELESS_OTHER_MODE = 6,     /* P with a message held, or Q D O K in another mode */
-    NOOSELESS_NEVER_GIVEN = 7,    /* R of data or done whose I is above the controller's last used */
-    NOOSELESS_SPENT = 8,          /* P with J numbers spent */
+    NOOSELESS_IS_DOWN = 4,        /* P Q D S with the console down, O K R with the controller down - V or Y first */
+    NOOSELESS_IS_UP = 5,          /* V or Y with that end up - nothing to do */
+    NOOSELESS_OTHER_MODE = 6,     /* P with a message held - wait for its answer. Q in another mode - try D. O - try K. D or K after
+                                     that - idle, nothing to repeat */
+    NOOSELESS_NEVER_GIVEN = 7,    /* R of data or done whose I is above the controller's last used - drop it and call a person: it is of
+                                     another link, or this controller's record is older than numbers that it gave */
+    NOOSELESS_SPENT = 8,          /* P with J numbers spent - this console puts no more orders, ever; call a person. (A controller whose
+                                     numbers are spent refuses nothing: it answers no needI) */
     NOOSELESS_NO_ROOM = 9,        /* copies to be added exceed the free places of the channel */
     NOOSELESS_MANY_COPIES = 10,   /* copies above 3 */
-    NOOSELESS_NO_CELL = 11,       /* P with a byte outside 0x20 to 0x7E */
-    NOOSELESS_WRONG_LENGTH = 12,  /* packet, record or reply buffer of a wrong length */
-    NOOSELESS_WRONG_MARK = 13,    /* mark wrong */
-    NOOSELESS_WRONG_VERSION = 14, /* version not 1 */
-    NOOSELESS_WRONG_FIELD = 15    /* any other field outside its table; a packet that goes the other way */
+    NOOSELESS_NO_CELL = 11,       /* P with a byte outside 0x20 to 0x7E - tell who wrote the order */
+    NOOSELESS_WRONG_LENGTH = 12,  /* packet, record or reply buffer of a wrong length - a packet that is 12 to 15 is junk: drop it. A
+                                     record: see "At power-on". A reply buffer: a mistake in the box's program */
+    NOOSELESS_WRONG_MARK = 13,    /* mark wrong - likewise */
+    NOOSELESS_WRONG_VERSION = 14, /* version not 1 - likewise */
+    NOOSELESS_WRONG_FIELD = 15    /* any other field outside its table; a packet that goes the other way - likewise */
 };
 
 /* ---- Packets and number records ---- */
 
 enum nooseless_kind {
-    NOOSELESS_NEEDI = 1, /* to the controller; first J */
-    NOOSELESS_OFFER = 2, /* to the console; first J, second I */
-    NOOSELESS_DATA = 3,  /* to the controller; first I; 16 cells */
-    NOOSELESS_OK = 4,    /* to the console; first I */
-    NOOSELESS_LOST = 5,  /* to the console; first I */
-    NOOSELESS_DONE = 6   /* to the controller; first I */
+    NOOSELESS_KIND_NEEDI = 1, /* to the controller; first J */
+    NOOSELESS_KIND_OFFER = 2, /* to the console; first J, second I */
+    NOOSELESS_KIND_DATA = 3,  /* to the controller; first I; 16 cells */
+    NOOSELESS_KIND_OK = 4,    /* to the console; first I */
+    NOOSELESS_KIND_LOST = 5,  /* to the console; first I */
+    NOOSELESS_KIND_DONE = 6   /* to the controller; first I */
 };
 
 enum nooseless_end { NOOSELESS_CONSOLE = 1, NOOSELESS_CONTROLLER = 2 };
@@ -70,7 +125,8 @@ enum nooseless_end { NOOSELESS_CONSOLE = 1, NOOSELESS_CONTROLLER = 2 };
 uint8_t nooseless_read_packet(const uint8_t *packet, size_t packet_len, uint8_t *kind, uint32_t *first, uint32_t *second,
                               uint8_t message[NOOSELESS_MESSAGE]);
 
-/* Writes a packet to 32 bytes; kind, numbers and message as its line above says. Refusals: WRONG_LENGTH, WRONG_FIELD. */
+/* Writes a packet to 32 bytes; kind and numbers as its line above says, a second number that is not there 0, `message` 16 cells for
+ * data and 16 zero bytes for any other kind. Refusals: WRONG_LENGTH, WRONG_FIELD. */
 uint8_t nooseless_write_packet(uint8_t *out, size_t out_len, uint8_t kind, uint32_t first, uint32_t second,
                                const uint8_t message[NOOSELESS_MESSAGE]);
 
@@ -89,19 +145,46 @@ uint8_t nooseless_write_record(uint8_t *out, size_t out_len, uint8_t end, uint32
  *   console, 30 bytes:    0-3 last used J; 4-7 j; 8-11 last; 12 held; 13 up; 14-29 message (16 spaces where none is held)
  *   controller, 17 bytes: 0-3 last used I; 4-7 j; 8-11 i; 12-15 last; 16 up
  *
- * Numbers are big-endian, 0 means none.
+ * Numbers are big-endian, 0 means none. Of all this only the last used has to survive a power cut: it is the end's number record.
  *
- * Before a packet leaves that bears a new number, the box keeps the end's number record where a power cut can't reach it: write
- * the record after each step, and where it has changed, keep it before the reply is sent. After power loss, start from it with
- * .._downed, then V or Y.
+ * THE RULE that a box has to keep, console and controller alike. After a step that is no refusal:
+ *   1. where it told NOOSELESS_KEEP, the end's number record (.._record) is kept, so that a power cut can't take it back;
+ *   2. then its report is shown: the console's row, the controller's order carried out;
+ *   3. then its reply leaves, where it told NOOSELESS_SENT;
+ *   4. then comes the next step of that end.
+ * Power may fail at any moment; what follows in this order is then not done. If it fails before 1 is done, nothing of that step was
+ * shown or sent. If 4 came before 3, in a timer's interrupt, say, an OK might leave before its order is carried out.
+ *
+ * At power-on the box loads the record that it kept last: .._downed, then V or Y. With none that can be read (empty, or refused by
+ * .._downed) it must never start again from 0: a number that is given twice can be a dose that is given twice. It stops and calls a
+ * person; or it starts with .._fresh from the largest number that it may have used. Only a box that has never run starts from 0, and
+ * that its record is missing does not say so: better, who makes the box keeps the first record in it (nooseless_write_record with 0),
+ * and the box itself never makes one. A box that takes another's place on the link takes over its record.
+ *
+ * A record that was half written may read as a valid one with a number that never was: it holds no check sum. So it is never written
+ * over in place: it is written aside, synced, and put in its place by one act that is done or not done (rename, and the folder synced);
+ * or it is kept twice, each with a check sum of the box's own, in two places of which a cut spoils only the one being written, the
+ * second after the first; at power-on the larger of those that are whole is taken, and the other written anew from it before the box
+ * starts.
+ *
+ * What this gives is proved, of the very steps that these entries take (crates/demand3, the theorem boxes-right): two boxes that keep
+ * the rule, from any two records on, over any radio. Whatever either sent may come never, once, often, late, in any order, through any
+ * cuts and returns of either end, and junk may come at any time. One thing is presumed: bytes that read as a packet for an end were sent
+ * by the other, for which the radio's own error detection has to stand. Then
+ *   - an order is delivered at most once, after its put and in the order of the puts, with its own 16 cells;
+ *   - an order is answered at most once, and not at all once the console has gone down after its put;
+ *   - OK: it was delivered before;
+ *   - lost: since the put the controller went down and came back, and the order won't be delivered later.
+ * Lost does not say that it was not delivered: it may have been, before the controller went down. To put it again may double a dose,
+ * so the row leaves that to a person.
  */
 
-/* Up and idle, with any last used; 0 for a box that never ran. Refusals: ILL_FORMED. */
+/* Up and idle, with any last used; 0 only for a box that never ran. Refusals: ILL_FORMED, for a length alone. */
 uint8_t nooseless_console_fresh(uint8_t *state, size_t state_len, uint32_t last_used);
 uint8_t nooseless_controller_fresh(uint8_t *state, size_t state_len, uint32_t last_used);
 
-/* After power loss: down, with the last used of the end's own number record. Refusals: ILL_FORMED, WRONG_LENGTH, WRONG_MARK,
- * WRONG_VERSION, WRONG_FIELD (also for a record of the other end). */
+/* After power loss: down, with the last used of the end's own number record. Refusals: ILL_FORMED, for a length alone, WRONG_LENGTH,
+ * WRONG_MARK, WRONG_VERSION, WRONG_FIELD (also for a record of the other end). */
 uint8_t nooseless_console_downed(uint8_t *state, size_t state_len, const uint8_t *record, size_t record_len);
 uint8_t nooseless_controller_downed(uint8_t *state, size_t state_len, const uint8_t *record, size_t record_len);
 
@@ -109,31 +192,36 @@ uint8_t nooseless_controller_downed(uint8_t *state, size_t state_len, const uint
 uint8_t nooseless_console_record(const uint8_t *state, size_t state_len, uint8_t *out, size_t out_len);
 uint8_t nooseless_controller_record(const uint8_t *state, size_t state_len, uint8_t *out, size_t out_len);
 
-/* What a step returns: a refusal, or one of these, with NOOSELESS_SENT added where a packet was written to the reply buffer. */
+/* What a step returns: a refusal, or one of these with KEEP and SENT added where they apply. A refusal has neither. */
 enum nooseless_told {
-    NOOSELESS_NOTHING = 0,    /* nothing to report */
-    NOOSELESS_DELIVERED = 16, /* the controller: the 16 cells are in `delivered` */
-    NOOSELESS_ANSWER_OK = 17, /* the console: the order that was held is delivered */
-    NOOSELESS_ANSWER_LOST = 18 /* the console: the controller went down and came back; the order won't be delivered later */
+    NOOSELESS_NOTHING = 0,     /* nothing to report */
+    NOOSELESS_DELIVERED = 64,  /* the controller: carry out the 16 cells in `delivered` */
+    NOOSELESS_ANSWER_OK = 65,  /* the console: the order that was held was delivered */
+    NOOSELESS_ANSWER_LOST = 66 /* the console: the controller went down and came back; the order that was held won't be delivered later */
 };
-/* Lost does not say that the order was not delivered: it may have been, before the controller went down. To put it again may double a
- * dose, so the row leaves that to a person. An order that the console held when it went down is never answered, neither by V nor later. */
-#define NOOSELESS_SENT 0x80
-#define NOOSELESS_REPORT(told) ((uint8_t)((told) & 0x7F))
-#define NOOSELESS_IS_REFUSAL(told) (0 < (told) && (told) < 16)
+#define NOOSELESS_KEEP 0x20 /* the end's number record changed */
+#define NOOSELESS_SENT 0x80 /* a packet was written to the reply buffer */
+
+static inline int nooseless_is_refusal(uint8_t told) { return 1 <= told && told <= 31; }
+
+/* Of a byte that is no refusal: which of enum nooseless_told. */
+static inline uint8_t nooseless_report(uint8_t told) { return (uint8_t)(told & ~(NOOSELESS_KEEP | NOOSELESS_SENT)); }
 
 /*
- * The console's P Q D S C V. `message` is looked at by P alone, `packet` by S alone; Q D S are lent the reply buffer of 32 bytes,
- * whose length is looked at even with nothing to send. Refusals: NO_ACTION, ILL_FORMED, WRONG_LENGTH, WRONG_MARK, WRONG_VERSION,
- * WRONG_FIELD, NO_CELL, IS_DOWN, IS_UP, OTHER_MODE, SPENT.
+ * The console's P Q D S C V. P alone uses `message`, S alone `packet`, which may have any length. Q D S use the reply buffer, 32 bytes,
+ * whose length is looked at even with nothing to send. With every letter `message` must be 16 good bytes, and `packet` and `reply`
+ * good for their lengths: a pointer that is not NULL and a length of 0 will do for a letter that does not use them.
+ * Refusals: NO_ACTION, ILL_FORMED, WRONG_LENGTH, WRONG_MARK, WRONG_VERSION, WRONG_FIELD, NO_CELL, IS_DOWN, IS_UP, OTHER_MODE, SPENT.
  */
 uint8_t nooseless_console_step(uint8_t *state, size_t state_len, uint8_t letter, const uint8_t message[NOOSELESS_MESSAGE],
                                const uint8_t *packet, size_t packet_len, uint8_t *reply, size_t reply_len);
 
 /*
- * The controller's O K R X Y. `packet` is looked at by R alone; O K R are lent the reply buffer of 32 bytes. `delivered` is written
- * with NOOSELESS_DELIVERED and else untouched. Refusals: NO_ACTION, ILL_FORMED, WRONG_LENGTH, WRONG_MARK, WRONG_VERSION,
- * WRONG_FIELD, IS_DOWN, IS_UP, OTHER_MODE, NEVER_GIVEN.
+ * The controller's O K R X Y. R alone uses `packet`, which may have any length. O K R use the reply buffer, 32 bytes, whose length is
+ * looked at even with nothing to send. `delivered` is written with NOOSELESS_DELIVERED and else untouched. With every letter it must
+ * be 16 good bytes, and `packet` and `reply` good for their lengths: a pointer that is not NULL and a length of 0 will do for a letter
+ * that does not use them.
+ * Refusals: NO_ACTION, ILL_FORMED, WRONG_LENGTH, WRONG_MARK, WRONG_VERSION, WRONG_FIELD, IS_DOWN, IS_UP, OTHER_MODE, NEVER_GIVEN.
  */
 uint8_t nooseless_controller_step(uint8_t *state, size_t state_len, uint8_t letter, const uint8_t *packet, size_t packet_len,
                                   uint8_t *reply, size_t reply_len, uint8_t delivered[NOOSELESS_MESSAGE]);
@@ -155,10 +243,10 @@ uint8_t nooseless_bench_fresh(uint8_t *state, size_t state_len, uint8_t *out, si
                               uint32_t console_last_used, uint32_t controller_last_used);
 
 /*
- * One of the thirteen actions: P Q D S C V, O K R X Y, and L M, which lose a packet on its way to the controller and to the console.
- * `place` is looked at by S R L M alone, `copies` by Q D S O K R, `message` by P. Returns what an end's step does, without
- * NOOSELESS_SENT; `delivered` is written with NOOSELESS_DELIVERED and else untouched. Refusals: NO_ACTION, ILL_FORMED, NO_CELL,
- * MANY_COPIES, IS_DOWN, IS_UP, OTHER_MODE, SPENT, NO_PLACE, NEVER_GIVEN, NO_ROOM.
+ * One of the thirteen actions: P Q D S C V, O K R X Y, L M. S R L M alone use `place`, Q D S O K R `copies`, P `message`, which must be
+ * 16 good bytes with every letter. Returns what an end's step does, without NOOSELESS_KEEP and NOOSELESS_SENT: a bench is no box;
+ * `delivered`, 16 good bytes with every letter, is written with NOOSELESS_DELIVERED and else untouched. Refusals: NO_ACTION,
+ * ILL_FORMED, NO_CELL, MANY_COPIES, IS_DOWN, IS_UP, OTHER_MODE, SPENT, NO_PLACE, NEVER_GIVEN, NO_ROOM.
  */
 uint8_t nooseless_bench_step(uint8_t *state, size_t state_len, uint8_t *out, size_t out_len, uint8_t *back, size_t back_len,
                              uint8_t letter, size_t place, size_t copies, const uint8_t message[NOOSELESS_MESSAGE],

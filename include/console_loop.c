@@ -1,0 +1,41 @@
+/* The loop of a console box. */
+#include "loops.h"
+
+static uint8_t state[NOOSELESS_CONSOLE_STATE], order[NOOSELESS_MESSAGE], reply[NOOSELESS_PACKET];
+static uint8_t heard[NOOSELESS_PACKET + 1]; /* a byte more, so that what is too long is seen to be */
+static int holding;
+
+/* One step, by the rule: the record is kept, then the row shown, then the reply leaves. */
+static uint8_t act(uint8_t letter, size_t length) {
+    uint8_t told = nooseless_console_step(state, sizeof state, letter, order, heard, length, reply, sizeof reply);
+    if (nooseless_is_refusal(told)) return told;
+    if (told & NOOSELESS_KEEP) {
+        uint8_t record[NOOSELESS_RECORD];
+        nooseless_console_record(state, sizeof state, record, sizeof record);
+        console_keep(record);
+    }
+    if (nooseless_report(told) != NOOSELESS_NOTHING) {
+        console_show(nooseless_report(told), order);
+        holding = 0;
+    }
+    if (told & NOOSELESS_SENT) console_send(reply);
+    return told;
+}
+
+uint8_t console_start(void) {
+    uint8_t record[NOOSELESS_RECORD];
+    uint8_t refusal = nooseless_console_downed(state, sizeof state, record, console_load(record));
+    holding = 0;
+    return refusal ? refusal : act(NOOSELESS_CONSOLE_BACK, 0);
+}
+
+void console_turn(void) {
+    if (!holding && console_order(order)) {
+        uint8_t told = act(NOOSELESS_PUT, 0);
+        holding = !nooseless_is_refusal(told);
+        console_show(holding ? nooseless_report(told) : told, order);
+    }
+    int length = console_hear(heard, sizeof heard);
+    if (length >= 0) act(NOOSELESS_CONSOLE_TAKE, (size_t)length);
+    if (console_due() && act(NOOSELESS_SEND_NEEDI, 0) == NOOSELESS_OTHER_MODE) act(NOOSELESS_SEND_DATA, 0);
+}

@@ -1,0 +1,115 @@
+/*
+ * The header's names beside the archive: version, lengths, letters, the byte of a step, and buffers that lie at any address. Prints what is
+ * otherwise and ends with 1.
+ */
+#include "nooseless.h"
+
+#include <stdio.h>
+#include <string.h>
+
+#include "nooseless.h"
+
+static int wrong;
+
+static void want(int so, const char *what) {
+    if (so) return;
+    printf("names: %s\n", what);
+    wrong = 1;
+}
+
+static uint8_t console[NOOSELESS_CONSOLE_STATE + 2], controller[NOOSELESS_CONTROLLER_STATE + 2], bench[NOOSELESS_BENCH_STATE + 2];
+static uint8_t out[NOOSELESS_TABLE + 2], back[NOOSELESS_TABLE + 2], record[NOOSELESS_RECORD + 2];
+static uint8_t packet[NOOSELESS_PACKET + 2], reply[NOOSELESS_PACKET + 2], delivered[NOOSELESS_MESSAGE];
+static const uint8_t message[] = "START FILLER 03 ";
+
+/* One byte less and one more are refused; the length itself is not. */
+static void lengths(void) {
+    for (size_t n = 0; n < 3; n++) {
+        int good = n == 1;
+        size_t c = NOOSELESS_CONSOLE_STATE - 1 + n, k = NOOSELESS_CONTROLLER_STATE - 1 + n, t = NOOSELESS_TABLE - 1 + n;
+        uint32_t first, second;
+        uint8_t kind;
+        want((nooseless_console_fresh(console, c, 0) == 0) == good, "length of a console's state");
+        want((nooseless_controller_fresh(controller, k, 0) == 0) == good, "length of a controller's state");
+        want((nooseless_bench_fresh(bench, NOOSELESS_BENCH_STATE - 1 + n, out, NOOSELESS_TABLE, back, NOOSELESS_TABLE, 0, 0) == 0) == good,
+             "length of a bench's state");
+        want((nooseless_bench_fresh(bench, NOOSELESS_BENCH_STATE, out, t, back, NOOSELESS_TABLE, 0, 0) == 0) == good, "length of a table");
+        want((nooseless_write_record(record, NOOSELESS_RECORD - 1 + n, NOOSELESS_CONSOLE, 0) == 0) == good, "length of a record");
+        memset(delivered, 0, sizeof delivered);
+        want((nooseless_write_packet(packet, NOOSELESS_PACKET - 1 + n, NOOSELESS_KIND_NEEDI, 1, 0, delivered) == 0) == good, "length of a packet");
+        nooseless_write_packet(packet, NOOSELESS_PACKET, NOOSELESS_KIND_DATA, 1, 0, message);
+        want((nooseless_read_packet(packet, NOOSELESS_PACKET - 1 + n, &kind, &first, &second, delivered) == 0) == good, "length of a packet read");
+    }
+}
+
+/* Each byte: a letter of the header's, of that end's, or no action. A letter that is one is refused for another reason, or not at all. */
+static void letters(void) {
+    static const uint8_t of_console[] = {NOOSELESS_PUT, NOOSELESS_SEND_NEEDI, NOOSELESS_SEND_DATA, NOOSELESS_CONSOLE_TAKE, NOOSELESS_CONSOLE_DOWN,
+                                         NOOSELESS_CONSOLE_BACK, 0};
+    static const uint8_t of_controller[] = {NOOSELESS_SEND_OFFER, NOOSELESS_SEND_OK, NOOSELESS_CONTROLLER_TAKE, NOOSELESS_CONTROLLER_DOWN,
+                                            NOOSELESS_CONTROLLER_BACK, 0};
+    static const uint8_t of_bench[] = {NOOSELESS_LOSE_TO_CONTROLLER, NOOSELESS_LOSE_TO_CONSOLE, 0};
+    for (int l = 1; l < 256; l++) {
+        int one = strchr((const char *)of_console, l) != NULL, other = strchr((const char *)of_controller, l) != NULL;
+        int any = one || other || strchr((const char *)of_bench, l) != NULL;
+        uint8_t letter = (uint8_t)l;
+        want((nooseless_console_step(console, 0, letter, message, packet, 0, reply, 0) != NOOSELESS_NO_ACTION) == one, "the console's letters");
+        want((nooseless_controller_step(controller, 0, letter, packet, 0, reply, 0, delivered) != NOOSELESS_NO_ACTION) == other,
+             "the controller's letters");
+        want((nooseless_bench_step(bench, 0, out, 0, back, 0, letter, 0, 0, message, delivered) != NOOSELESS_NO_ACTION) == any, "the bench's letters");
+    }
+}
+
+/* What a byte that a step may return is; and that an argument is used once. */
+static void bytes(void) {
+    static const uint8_t reports[] = {NOOSELESS_NOTHING, NOOSELESS_DELIVERED, NOOSELESS_ANSWER_OK, NOOSELESS_ANSWER_LOST};
+    static const uint8_t marks[] = {0, NOOSELESS_KEEP, NOOSELESS_SENT, NOOSELESS_KEEP | NOOSELESS_SENT};
+    for (int r = 0; r < 4; r++)
+        for (int m = 0; m < 4; m++) {
+            uint8_t told = (uint8_t)(reports[r] | marks[m]);
+            want(!nooseless_is_refusal(told) && nooseless_report(told) == reports[r], "a report with its marks");
+        }
+    for (uint8_t n = NOOSELESS_NO_ACTION; n <= 31; n++)
+        want(nooseless_is_refusal(n) && !(n & (NOOSELESS_KEEP | NOOSELESS_SENT)), "a refusal has no marks");
+    uint8_t told = 0;
+    want(!nooseless_is_refusal(told++) && told == 1, "nooseless_is_refusal uses its argument once");
+    want(nooseless_report(told++) == 1 && told == 2, "nooseless_report uses its argument once");
+}
+
+/* An order put, asked for, permitted, sent and delivered, by each letter's name, with every buffer of bytes at that offset of an address. */
+static void at(size_t by) {
+    static uint8_t room[8][64];
+    uint8_t *c = room[0] + by, *k = room[1] + by, *p = room[2] + by, *q = room[3] + by, *m = room[4] + by, *d = room[5] + by, *r = room[6] + by;
+    memcpy(m, message, NOOSELESS_MESSAGE);
+    want(nooseless_write_record(r, NOOSELESS_RECORD, NOOSELESS_CONSOLE, 7) == 0, "a record written");
+    want(nooseless_console_downed(c, NOOSELESS_CONSOLE_STATE, r, NOOSELESS_RECORD) == 0, "a console after power loss");
+    want(nooseless_controller_fresh(k, NOOSELESS_CONTROLLER_STATE, 9) == 0, "a controller that never ran");
+#define STEP(letter) nooseless_console_step(c, NOOSELESS_CONSOLE_STATE, letter, m, q, NOOSELESS_PACKET, p, NOOSELESS_PACKET)
+#define STEP_BACK(letter) nooseless_controller_step(k, NOOSELESS_CONTROLLER_STATE, letter, p, NOOSELESS_PACKET, q, NOOSELESS_PACKET, d)
+    want(STEP(NOOSELESS_PUT) == NOOSELESS_IS_DOWN, "P of a console that is down");
+    want(STEP(NOOSELESS_CONSOLE_BACK) == NOOSELESS_NOTHING, "V");
+    want(STEP(NOOSELESS_PUT) == (NOOSELESS_NOTHING | NOOSELESS_KEEP), "P");
+    want(STEP(NOOSELESS_SEND_DATA) == NOOSELESS_OTHER_MODE, "D in needI");
+    want(STEP(NOOSELESS_SEND_NEEDI) == (NOOSELESS_NOTHING | NOOSELESS_SENT), "Q");
+    want(STEP_BACK(NOOSELESS_CONTROLLER_TAKE) == (NOOSELESS_NOTHING | NOOSELESS_KEEP), "R of needI");
+    want(STEP_BACK(NOOSELESS_SEND_OFFER) == (NOOSELESS_NOTHING | NOOSELESS_SENT), "O");
+    want(STEP(NOOSELESS_CONSOLE_TAKE) == NOOSELESS_NOTHING, "S of an offer");
+    want(STEP(NOOSELESS_SEND_NEEDI) == NOOSELESS_OTHER_MODE, "Q in send");
+    want(STEP(NOOSELESS_SEND_DATA) == (NOOSELESS_NOTHING | NOOSELESS_SENT), "D");
+    want(STEP_BACK(NOOSELESS_CONTROLLER_TAKE) == (NOOSELESS_DELIVERED | NOOSELESS_SENT), "R of data");
+    want(memcmp(d, message, NOOSELESS_MESSAGE) == 0, "the cells delivered");
+    want(STEP_BACK(NOOSELESS_SEND_OFFER) == NOOSELESS_OTHER_MODE, "O in ack");
+    want(STEP_BACK(NOOSELESS_SEND_OK) == (NOOSELESS_NOTHING | NOOSELESS_SENT), "K");
+    want(STEP(NOOSELESS_CONSOLE_TAKE) == (NOOSELESS_ANSWER_OK | NOOSELESS_SENT), "S of OK");
+    want(STEP_BACK(NOOSELESS_CONTROLLER_TAKE) == NOOSELESS_NOTHING, "R of done");
+    want(STEP_BACK(NOOSELESS_SEND_OK) == NOOSELESS_OTHER_MODE, "K when idle");
+}
+
+int main(void) {
+    want(nooseless_version() == NOOSELESS_VERSION, "the archive is of another version");
+    lengths();
+    letters();
+    bytes();
+    for (size_t by = 0; by < 16; by++) at(by);
+    return wrong;
+}

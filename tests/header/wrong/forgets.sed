@@ -1,0 +1,2 @@
+# keeps no record
+s/^\( *\)@_keep(record);/\1(void)record;/

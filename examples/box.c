@@ -29,24 +29,24 @@ int due(uint64_t *next, uint64_t period) {
     return 1;
 }
 
-size_t record_load(const char *path, uint8_t record[NOOSELESS_RECORD]) {
+size_t record_load(const char *path, uint8_t record[NOOSELESS_RECORD_LEN]) {
     int f = open(path, O_RDONLY);
     if (f < 0) {
         if (errno == ENOENT) return 0;
         fail(path);
     }
-    ssize_t n = read(f, record, NOOSELESS_RECORD);
+    ssize_t n = read(f, record, NOOSELESS_RECORD_LEN);
     close(f);
     if (n < 0) fail(path);
     return (size_t)n;
 }
 
-void record_keep(const char *path, const uint8_t record[NOOSELESS_RECORD]) {
+void record_keep(const char *path, const uint8_t record[NOOSELESS_RECORD_LEN]) {
     char aside[64];
     if ((size_t)snprintf(aside, sizeof aside, "%s.new", path) >= sizeof aside) fail("record name");
     int f = open(aside, O_WRONLY | O_CREAT | O_TRUNC, 0644);
     if (f < 0) fail(aside);
-    if (write(f, record, NOOSELESS_RECORD) != NOOSELESS_RECORD) fail(aside);
+    if (write(f, record, NOOSELESS_RECORD_LEN) != NOOSELESS_RECORD_LEN) fail(aside);
     if (fsync(f) != 0) fail(aside);
     if (close(f) != 0) fail(aside);
     if (rename(aside, path) != 0) fail(path);

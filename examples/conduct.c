@@ -41,7 +41,7 @@ static void rest(uint64_t nanoseconds) {
 
 /* Who makes a box keeps the first record in it. */
 static void make(const char *path, uint8_t end) {
-    uint8_t record[NOOSELESS_RECORD];
+    uint8_t record[NOOSELESS_RECORD_LEN];
     if (nooseless_write_record(record, sizeof record, end, 0) != 0) fail(path);
     record_keep(path, record);
 }
@@ -75,11 +75,11 @@ static void feed(void) {
     static unsigned long next = 1;
     int waiting;
     if (ioctl(orders[0], FIONREAD, &waiting) != 0) fail("orders");
-    while (waiting < 4 * (NOOSELESS_MESSAGE + 1)) {
-        char line[NOOSELESS_MESSAGE + 2];
+    while (waiting < 4 * (NOOSELESS_MESSAGE_LEN + 1)) {
+        char line[NOOSELESS_MESSAGE_LEN + 2];
         snprintf(line, sizeof line, "ORDER %010lu\n", next++ % 10000000000u);
-        if (write(orders[1], line, NOOSELESS_MESSAGE + 1) != NOOSELESS_MESSAGE + 1) fail("orders");
-        waiting += NOOSELESS_MESSAGE + 1;
+        if (write(orders[1], line, NOOSELESS_MESSAGE_LEN + 1) != NOOSELESS_MESSAGE_LEN + 1) fail("orders");
+        waiting += NOOSELESS_MESSAGE_LEN + 1;
     }
 }
 

@@ -16,23 +16,23 @@
 static int rows, air;
 static uint64_t next, given; /* when to repeat, when the order came */
 
-size_t console_load(uint8_t record[NOOSELESS_RECORD]) { return record_load("console.record", record); }
-void console_keep(const uint8_t record[NOOSELESS_RECORD]) { record_keep("console.record", record); }
+size_t console_load(uint8_t record[NOOSELESS_RECORD_LEN]) { return record_load("console.record", record); }
+void console_keep(const uint8_t record[NOOSELESS_RECORD_LEN]) { record_keep("console.record", record); }
 int console_hear(uint8_t *bytes, int room) { return radio_receive(air, bytes, room); }
-void console_send(const uint8_t packet[NOOSELESS_PACKET]) { radio_send(air, "from-console", packet, NOOSELESS_PACKET); }
+void console_send(const uint8_t packet[NOOSELESS_PACKET_LEN]) { radio_send(air, "from-console", packet, NOOSELESS_PACKET_LEN); }
 int console_due(void) { return due(&next, REPEAT); }
 
-int console_order(uint8_t order[NOOSELESS_MESSAGE]) {
-    uint8_t line[NOOSELESS_MESSAGE + 1];
+int console_order(uint8_t order[NOOSELESS_MESSAGE_LEN]) {
+    uint8_t line[NOOSELESS_MESSAGE_LEN + 1];
     ssize_t n = read(STDIN_FILENO, line, sizeof line);
     if (n == 0 || (n < 0 && (errno == EAGAIN || errno == EINTR))) return 0;
     if (n != (ssize_t)sizeof line) fail("order");
-    memcpy(order, line, NOOSELESS_MESSAGE);
+    memcpy(order, line, NOOSELESS_MESSAGE_LEN);
     given = clock_now();
     return 1;
 }
 
-void console_show(uint8_t told, const uint8_t order[NOOSELESS_MESSAGE]) {
+void console_show(uint8_t told, const uint8_t order[NOOSELESS_MESSAGE_LEN]) {
     switch (told) {
     case NOOSELESS_NOTHING:
         log_line(rows, given, "PUT", order);

@@ -15,23 +15,23 @@
 static int doses, air;
 static uint64_t next;
 
-size_t controller_load(uint8_t record[NOOSELESS_RECORD]) {
+size_t controller_load(uint8_t record[NOOSELESS_RECORD_LEN]) {
     log_line(doses, clock_now(), "BACK", NULL);
     return record_load("controller.record", record);
 }
 
 int controller_hear(uint8_t *bytes, int room) { return radio_receive(air, bytes, room); }
 int controller_due(void) { return due(&next, REPEAT); }
-void controller_dose(const uint8_t order[NOOSELESS_MESSAGE]) { log_line(doses, clock_now(), "DOSE", order); }
+void controller_dose(const uint8_t order[NOOSELESS_MESSAGE_LEN]) { log_line(doses, clock_now(), "DOSE", order); }
 
 #if defined FORGETFUL
-void controller_keep(const uint8_t record[NOOSELESS_RECORD]) { (void)record; }
+void controller_keep(const uint8_t record[NOOSELESS_RECORD_LEN]) { (void)record; }
 static void sent(void) {}
 #elif defined LATE
-static uint8_t waiting[NOOSELESS_RECORD];
+static uint8_t waiting[NOOSELESS_RECORD_LEN];
 static int late;
 
-void controller_keep(const uint8_t record[NOOSELESS_RECORD]) {
+void controller_keep(const uint8_t record[NOOSELESS_RECORD_LEN]) {
     memcpy(waiting, record, sizeof waiting);
     late = 1;
 }
@@ -40,12 +40,12 @@ static void sent(void) {
     late = 0;
 }
 #else
-void controller_keep(const uint8_t record[NOOSELESS_RECORD]) { record_keep("controller.record", record); }
+void controller_keep(const uint8_t record[NOOSELESS_RECORD_LEN]) { record_keep("controller.record", record); }
 static void sent(void) {}
 #endif
 
-void controller_send(const uint8_t packet[NOOSELESS_PACKET]) {
-    radio_send(air, "from-controller", packet, NOOSELESS_PACKET);
+void controller_send(const uint8_t packet[NOOSELESS_PACKET_LEN]) {
+    radio_send(air, "from-controller", packet, NOOSELESS_PACKET_LEN);
     sent();
 }
 

@@ -15,7 +15,7 @@
 struct held {
     uint64_t due;
     const char *to;
-    uint8_t packet[NOOSELESS_PACKET];
+    uint8_t packet[NOOSELESS_PACKET_LEN];
 };
 
 static struct held air[HELD];
@@ -30,8 +30,8 @@ static uint64_t hold(void) {
 }
 
 static void take(int from, const char *to) {
-    uint8_t packet[NOOSELESS_PACKET];
-    while (radio_receive(from, packet, sizeof packet) == NOOSELESS_PACKET) {
+    uint8_t packet[NOOSELESS_PACKET_LEN];
+    while (radio_receive(from, packet, sizeof packet) == NOOSELESS_PACKET_LEN) {
         if (below(&chance, 6) == 0) continue;
         int copies = below(&chance, 4) == 0 ? 3 : 1;
         while (copies-- > 0 && count < HELD) {

@@ -1,8 +1,8 @@
 /* The loop of a console box. */
 #include "loops.h"
 
-static uint8_t state[NOOSELESS_CONSOLE_STATE], order[NOOSELESS_MESSAGE], reply[NOOSELESS_PACKET];
-static uint8_t heard[NOOSELESS_PACKET + 1]; /* a byte more, so that what is too long is seen to be */
+static uint8_t state[NOOSELESS_CONSOLE_STATE_LEN], order[NOOSELESS_MESSAGE_LEN], reply[NOOSELESS_PACKET_LEN];
+static uint8_t heard[NOOSELESS_PACKET_LEN + 1]; /* a byte more, so that what is too long is seen to be */
 static int holding;
 
 /* One step, by the rule: the record is kept, then the row shown, then the reply leaves. */
@@ -10,7 +10,7 @@ static uint8_t act(uint8_t letter, size_t length) {
     uint8_t told = nooseless_console_step(state, sizeof state, letter, order, heard, length, reply, sizeof reply);
     if (nooseless_is_refusal(told)) return told;
     if (told & NOOSELESS_KEEP) {
-        uint8_t record[NOOSELESS_RECORD];
+        uint8_t record[NOOSELESS_RECORD_LEN];
         nooseless_console_record(state, sizeof state, record, sizeof record);
         console_keep(record);
     }
@@ -23,7 +23,7 @@ static uint8_t act(uint8_t letter, size_t length) {
 }
 
 uint8_t console_start(void) {
-    uint8_t record[NOOSELESS_RECORD];
+    uint8_t record[NOOSELESS_RECORD_LEN];
     uint8_t refusal = nooseless_console_downed(state, sizeof state, record, console_load(record));
     holding = 0;
     return refusal ? refusal : act(NOOSELESS_CONSOLE_BACK, 0);

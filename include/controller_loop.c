@@ -1,15 +1,15 @@
 /* The loop of a controller box. */
 #include "loops.h"
 
-static uint8_t state[NOOSELESS_CONTROLLER_STATE], order[NOOSELESS_MESSAGE], reply[NOOSELESS_PACKET];
-static uint8_t heard[NOOSELESS_PACKET + 1]; /* a byte more, so that what is too long is seen to be */
+static uint8_t state[NOOSELESS_CONTROLLER_STATE_LEN], order[NOOSELESS_MESSAGE_LEN], reply[NOOSELESS_PACKET_LEN];
+static uint8_t heard[NOOSELESS_PACKET_LEN + 1]; /* a byte more, so that what is too long is seen to be */
 
 /* One step, by the rule: the record is kept, then the order carried out, then the reply leaves. */
 static uint8_t act(uint8_t letter, size_t length) {
     uint8_t told = nooseless_controller_step(state, sizeof state, letter, heard, length, reply, sizeof reply, order);
     if (nooseless_is_refusal(told)) return told;
     if (told & NOOSELESS_KEEP) {
-        uint8_t record[NOOSELESS_RECORD];
+        uint8_t record[NOOSELESS_RECORD_LEN];
         nooseless_controller_record(state, sizeof state, record, sizeof record);
         controller_keep(record);
     }
@@ -19,7 +19,7 @@ static uint8_t act(uint8_t letter, size_t length) {
 }
 
 uint8_t controller_start(void) {
-    uint8_t record[NOOSELESS_RECORD];
+    uint8_t record[NOOSELESS_RECORD_LEN];
     uint8_t refusal = nooseless_controller_downed(state, sizeof state, record, controller_load(record));
     return refusal ? refusal : act(NOOSELESS_CONTROLLER_BACK, 0);
 }

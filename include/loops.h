@@ -10,17 +10,17 @@
 /* ---- The console's box brings along ---- */
 
 /* Gets the number record that was kept last and returns 12; 0 where none can be read. */
-size_t console_load(uint8_t record[NOOSELESS_RECORD]);
+size_t console_load(uint8_t record[NOOSELESS_RECORD_LEN]);
 /* Returns once a power cut can't take the record back. */
-void console_keep(const uint8_t record[NOOSELESS_RECORD]);
+void console_keep(const uint8_t record[NOOSELESS_RECORD_LEN]);
 /* Gets the next order, where somebody gave one; then it is true. */
-int console_order(uint8_t order[NOOSELESS_MESSAGE]);
+int console_order(uint8_t order[NOOSELESS_MESSAGE_LEN]);
 /* Shows the row of an order: NOOSELESS_NOTHING, it is put; NOOSELESS_ANSWER_OK; NOOSELESS_ANSWER_LOST; or why it could not be put. */
-void console_show(uint8_t told, const uint8_t order[NOOSELESS_MESSAGE]);
+void console_show(uint8_t told, const uint8_t order[NOOSELESS_MESSAGE_LEN]);
 /* Gets the bytes that came in, at most `room`, and returns how many; -1 where none came. */
 int console_hear(uint8_t *bytes, int room);
 /* Lets a packet go out. */
-void console_send(const uint8_t packet[NOOSELESS_PACKET]);
+void console_send(const uint8_t packet[NOOSELESS_PACKET_LEN]);
 /* Whether it is time to repeat. */
 int console_due(void);
 
@@ -31,13 +31,13 @@ void console_turn(void);
 
 /* ---- The controller's box brings along the same, and ---- */
 
-size_t controller_load(uint8_t record[NOOSELESS_RECORD]);
-void controller_keep(const uint8_t record[NOOSELESS_RECORD]);
+size_t controller_load(uint8_t record[NOOSELESS_RECORD_LEN]);
+void controller_keep(const uint8_t record[NOOSELESS_RECORD_LEN]);
 int controller_hear(uint8_t *bytes, int room);
-void controller_send(const uint8_t packet[NOOSELESS_PACKET]);
+void controller_send(const uint8_t packet[NOOSELESS_PACKET_LEN]);
 int controller_due(void);
 /* Carries the order out; returns once it is done. */
-void controller_dose(const uint8_t order[NOOSELESS_MESSAGE]);
+void controller_dose(const uint8_t order[NOOSELESS_MESSAGE_LEN]);
 /* A packet with a number that this controller has not given: a person has to look at its record. */
 void controller_alarm(void);
 

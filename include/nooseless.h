@@ -41,15 +41,15 @@ uint32_t nooseless_version(void);
 
 /* ---- Lengths in bytes ---- */
 
-#define NOOSELESS_MESSAGE 16
-#define NOOSELESS_PACKET 32
-#define NOOSELESS_RECORD 12
-#define NOOSELESS_CONSOLE_STATE 30
-#define NOOSELESS_CONTROLLER_STATE 17
-#define NOOSELESS_BENCH_STATE 49
-#define NOOSELESS_TABLE 2048
-#define NOOSELESS_LIST_RECORD 21
-#define NOOSELESS_LINE 27
+#define NOOSELESS_MESSAGE_LEN 16
+#define NOOSELESS_PACKET_LEN 32
+#define NOOSELESS_RECORD_LEN 12
+#define NOOSELESS_CONSOLE_STATE_LEN 30
+#define NOOSELESS_CONTROLLER_STATE_LEN 17
+#define NOOSELESS_BENCH_STATE_LEN 49
+#define NOOSELESS_TABLE_LEN 2048
+#define NOOSELESS_LIST_RECORD_LEN 21
+#define NOOSELESS_LINE_LEN 27
 
 /* ---- Letters: what a step is asked to do ----
  *
@@ -123,12 +123,12 @@ enum nooseless_end { NOOSELESS_CONSOLE = 1, NOOSELESS_CONTROLLER = 2 };
 /* Reads a packet of 32 bytes. A second number that is not there is 0, a message that is not there 16 zero bytes. Refusals:
  * WRONG_LENGTH, WRONG_MARK, WRONG_VERSION, WRONG_FIELD. */
 uint8_t nooseless_read_packet(const uint8_t *packet, size_t packet_len, uint8_t *kind, uint32_t *first, uint32_t *second,
-                              uint8_t message[NOOSELESS_MESSAGE]);
+                              uint8_t message[NOOSELESS_MESSAGE_LEN]);
 
 /* Writes a packet to 32 bytes; kind and numbers as its line above says, a second number that is not there 0, `message` 16 cells for
  * data and 16 zero bytes for any other kind. Refusals: WRONG_LENGTH, WRONG_FIELD. */
 uint8_t nooseless_write_packet(uint8_t *out, size_t out_len, uint8_t kind, uint32_t first, uint32_t second,
-                               const uint8_t message[NOOSELESS_MESSAGE]);
+                               const uint8_t message[NOOSELESS_MESSAGE_LEN]);
 
 /* Reads a number record of 12 bytes: whose it is, and its last used. Refusals: WRONG_LENGTH, WRONG_MARK, WRONG_VERSION,
  * WRONG_FIELD. */
@@ -149,7 +149,7 @@ uint8_t nooseless_write_record(uint8_t *out, size_t out_len, uint8_t end, uint32
  *
  * THE RULE that a box has to keep, console and controller alike. After a step that is no refusal:
  *   1. where it told NOOSELESS_KEEP, the end's number record (.._record) is kept, so that a power cut can't take it back;
- *   2. then its report is shown: the console's row, the controller's order carried out;
+ *   2. then its report is shown: the console's row (put, OK, lost), the controller's order carried out;
  *   3. then its reply leaves, where it told NOOSELESS_SENT;
  *   4. then comes the next step of that end.
  * Power may fail at any moment; what follows in this order is then not done. If it fails before 1 is done, nothing of that step was
@@ -167,10 +167,10 @@ uint8_t nooseless_write_record(uint8_t *out, size_t out_len, uint8_t end, uint32
  * second after the first; at power-on the larger of those that are whole is taken, and the other written anew from it before the box
  * starts.
  *
- * What this gives is proved, of the very steps that these entries take (crates/demand3, the theorem boxes-right): two boxes that keep
- * the rule, from any two records on, over any radio. Whatever either sent may come never, once, often, late, in any order, through any
- * cuts and returns of either end, and junk may come at any time. One thing is presumed: bytes that read as a packet for an end were sent
- * by the other, for which the radio's own error detection has to stand. Then
+ * What this gives is proved of these very entries (crates/demand3, the theorem boxes-for-c-right): two boxes that keep the rule, from
+ * any two records on, over any radio. Whatever either sent may come never, once, often, late, in any order, through any cuts and
+ * returns of either end, and junk may come at any time. One thing is presumed: bytes that read as a packet for an end were sent by the
+ * other, for which the radio's own error detection has to stand. Then
  *   - an order is delivered at most once, after its put and in the order of the puts, with its own 16 cells;
  *   - an order is answered at most once, and not at all once the console has gone down after its put;
  *   - OK: it was delivered before;
@@ -213,7 +213,7 @@ static inline uint8_t nooseless_report(uint8_t told) { return (uint8_t)(told & ~
  * good for their lengths: a pointer that is not NULL and a length of 0 will do for a letter that does not use them.
  * Refusals: NO_ACTION, ILL_FORMED, WRONG_LENGTH, WRONG_MARK, WRONG_VERSION, WRONG_FIELD, NO_CELL, IS_DOWN, IS_UP, OTHER_MODE, SPENT.
  */
-uint8_t nooseless_console_step(uint8_t *state, size_t state_len, uint8_t letter, const uint8_t message[NOOSELESS_MESSAGE],
+uint8_t nooseless_console_step(uint8_t *state, size_t state_len, uint8_t letter, const uint8_t message[NOOSELESS_MESSAGE_LEN],
                                const uint8_t *packet, size_t packet_len, uint8_t *reply, size_t reply_len);
 
 /*
@@ -224,7 +224,7 @@ uint8_t nooseless_console_step(uint8_t *state, size_t state_len, uint8_t letter,
  * Refusals: NO_ACTION, ILL_FORMED, WRONG_LENGTH, WRONG_MARK, WRONG_VERSION, WRONG_FIELD, IS_DOWN, IS_UP, OTHER_MODE, NEVER_GIVEN.
  */
 uint8_t nooseless_controller_step(uint8_t *state, size_t state_len, uint8_t letter, const uint8_t *packet, size_t packet_len,
-                                  uint8_t *reply, size_t reply_len, uint8_t delivered[NOOSELESS_MESSAGE]);
+                                  uint8_t *reply, size_t reply_len, uint8_t delivered[NOOSELESS_MESSAGE_LEN]);
 
 /* ---- A bench: both ends and both channels ----
  *
@@ -249,8 +249,8 @@ uint8_t nooseless_bench_fresh(uint8_t *state, size_t state_len, uint8_t *out, si
  * ILL_FORMED, NO_CELL, MANY_COPIES, IS_DOWN, IS_UP, OTHER_MODE, SPENT, NO_PLACE, NEVER_GIVEN, NO_ROOM.
  */
 uint8_t nooseless_bench_step(uint8_t *state, size_t state_len, uint8_t *out, size_t out_len, uint8_t *back, size_t back_len,
-                             uint8_t letter, size_t place, size_t copies, const uint8_t message[NOOSELESS_MESSAGE],
-                             uint8_t delivered[NOOSELESS_MESSAGE]);
+                             uint8_t letter, size_t place, size_t copies, const uint8_t message[NOOSELESS_MESSAGE_LEN],
+                             uint8_t delivered[NOOSELESS_MESSAGE_LEN]);
 
 /*
  * Where the packet at a place lies: `offset` gets the offset of its 32 bytes in the table of the channel that leads to `end`, which is

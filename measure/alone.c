@@ -9,12 +9,12 @@
 #include "nooseless.h"
 #include "peer.h"
 
-static const uint8_t blank[NOOSELESS_MESSAGE];
-static const uint8_t cells[NOOSELESS_MESSAGE + 1] = "START FILLER 03 ";
+static const uint8_t blank[NOOSELESS_MESSAGE_LEN];
+static const uint8_t cells[NOOSELESS_MESSAGE_LEN + 1] = "START FILLER 03 ";
 
 struct box {
-    uint8_t console[NOOSELESS_CONSOLE_STATE], controller[NOOSELESS_CONTROLLER_STATE];
-    uint8_t packet[NOOSELESS_PACKET], reply[NOOSELESS_PACKET], delivered[NOOSELESS_MESSAGE];
+    uint8_t console[NOOSELESS_CONSOLE_STATE_LEN], controller[NOOSELESS_CONTROLLER_STATE_LEN];
+    uint8_t packet[NOOSELESS_PACKET_LEN], reply[NOOSELESS_PACKET_LEN], delivered[NOOSELESS_MESSAGE_LEN];
 };
 
 /* Cases of both ends; the letter says which. */

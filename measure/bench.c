@@ -10,11 +10,11 @@
 #include "numbers.h"
 #include "peer.h"
 
-static const uint8_t blank[NOOSELESS_MESSAGE];
-static const uint8_t cells[NOOSELESS_MESSAGE + 1] = "START FILLER 03 ";
+static const uint8_t blank[NOOSELESS_MESSAGE_LEN];
+static const uint8_t cells[NOOSELESS_MESSAGE_LEN + 1] = "START FILLER 03 ";
 
 struct bench {
-    uint8_t state[NOOSELESS_BENCH_STATE], out[NOOSELESS_TABLE], back[NOOSELESS_TABLE], delivered[NOOSELESS_MESSAGE];
+    uint8_t state[NOOSELESS_BENCH_STATE_LEN], out[NOOSELESS_TABLE_LEN], back[NOOSELESS_TABLE_LEN], delivered[NOOSELESS_MESSAGE_LEN];
 };
 
 /* i idle, n needI, s send; i idle, a accept, k ack. The packet lies at place 0 of the channel that the letter takes from. */
@@ -47,12 +47,12 @@ static const struct {
 enum { ACTIONS = sizeof actions / sizeof *actions, CASES = ACTIONS * (sizeof fillings / sizeof *fillings) };
 
 static void set_ends(uint8_t *s, char console, char controller) {
-    uint8_t *d = s + NOOSELESS_CONSOLE_STATE;
+    uint8_t *d = s + NOOSELESS_CONSOLE_STATE_LEN;
     if (console != 'i') {
         put_number(s, 1);
         put_number(s + (console == 'n' ? 4 : 8), 1);
         s[12] = 1;
-        memcpy(s + 14, cells, NOOSELESS_MESSAGE);
+        memcpy(s + 14, cells, NOOSELESS_MESSAGE_LEN);
     }
     if (controller != 'i') put_number(d, 1);
     if (controller == 'a') {
@@ -64,12 +64,12 @@ static void set_ends(uint8_t *s, char console, char controller) {
 }
 
 static void set_packet(uint8_t *place, uint8_t kind) {
-    nooseless_write_packet(place, NOOSELESS_PACKET, kind, 1, kind == NOOSELESS_KIND_OFFER, kind == NOOSELESS_KIND_DATA ? cells : blank);
+    nooseless_write_packet(place, NOOSELESS_PACKET_LEN, kind, 1, kind == NOOSELESS_KIND_OFFER, kind == NOOSELESS_KIND_DATA ? cells : blank);
 }
 
 /* Kinds of a direction in turn, behind the one that is taken. */
 static void fill(uint8_t *table, size_t count, const uint8_t kinds[3], uint8_t first) {
-    for (size_t n = 0; n < count; n++) set_packet(table + n * NOOSELESS_PACKET, n == 0 && first ? first : kinds[n % 3]);
+    for (size_t n = 0; n < count; n++) set_packet(table + n * NOOSELESS_PACKET_LEN, n == 0 && first ? first : kinds[n % 3]);
 }
 
 static void prepare(struct bench *b, int action, size_t packets) {
@@ -86,7 +86,7 @@ static void prepare(struct bench *b, int action, size_t packets) {
     fill(b->back, back, to_console, from_back ? actions[action].kind : 0);
     b->state[47] = (uint8_t)out;
     b->state[48] = (uint8_t)back;
-    if (actions[action].told == NOOSELESS_ILL_FORMED) b->back[NOOSELESS_TABLE - 1] = 1;
+    if (actions[action].told == NOOSELESS_ILL_FORMED) b->back[NOOSELESS_TABLE_LEN - 1] = 1;
 }
 
 static uint8_t expected(int action, size_t packets) {

@@ -6,7 +6,7 @@
 #include "packets.h"
 #include "peer.h"
 
-enum { PLACES = 64, CONTROLLER = NOOSELESS_CONSOLE_STATE, SENT = 47, RETURNED = 48 };
+enum { PLACES = 64, CONTROLLER = NOOSELESS_CONSOLE_STATE_LEN, SENT = 47, RETURNED = 48 };
 
 /* A table, and where its count is. */
 struct channel {
@@ -15,7 +15,7 @@ struct channel {
 
 /* Whether these bytes are a packet of the direction. */
 static inline int packet_well(const uint8_t *p, int out) {
-    static const uint8_t head[5] = {'H', 'S', 'L', 0, 1}, none[NOOSELESS_MESSAGE];
+    static const uint8_t head[5] = {'H', 'S', 'L', 0, 1}, none[NOOSELESS_MESSAGE_LEN];
     uint8_t kind = p[5];
     if (memcmp(p, head, sizeof head) != 0 || p[6] != 0 || p[7] != 0) return 0;
     if (kind < NOOSELESS_KIND_NEEDI || kind > NOOSELESS_KIND_DONE || to_controller(kind) != out) return 0;
@@ -24,9 +24,9 @@ static inline int packet_well(const uint8_t *p, int out) {
 }
 
 static inline int well(const uint8_t *table, size_t n, size_t count, int out) {
-    if (n != NOOSELESS_TABLE || count > PLACES) return 0;
-    const uint8_t *p = table, *end = table + NOOSELESS_TABLE;
-    for (; p != table + count * NOOSELESS_PACKET; p += NOOSELESS_PACKET)
+    if (n != NOOSELESS_TABLE_LEN || count > PLACES) return 0;
+    const uint8_t *p = table, *end = table + NOOSELESS_TABLE_LEN;
+    for (; p != table + count * NOOSELESS_PACKET_LEN; p += NOOSELESS_PACKET_LEN)
         if (!packet_well(p, out)) return 0;
     uint64_t any = 0;
     for (; p != end; p += 8) {
@@ -41,17 +41,17 @@ static inline int full(struct channel c, size_t copies) { return copies > (size_
 
 static void send(struct channel c, size_t copies, uint8_t kind, uint32_t first, uint32_t second, const uint8_t *message) {
     for (; copies > 0; copies--) {
-        uint8_t *p = c.table + (*c.count)++ * NOOSELESS_PACKET;
+        uint8_t *p = c.table + (*c.count)++ * NOOSELESS_PACKET_LEN;
         write_packet(p, kind, first, second);
-        if (message) memcpy(p + 16, message, NOOSELESS_MESSAGE);
+        if (message) memcpy(p + 16, message, NOOSELESS_MESSAGE_LEN);
     }
 }
 
 static void take_out(struct channel c, size_t place) {
-    uint8_t *p = c.table + place * NOOSELESS_PACKET;
+    uint8_t *p = c.table + place * NOOSELESS_PACKET_LEN;
     size_t later = --*c.count - place;
-    memmove(p, p + NOOSELESS_PACKET, later * NOOSELESS_PACKET);
-    memset(p + later * NOOSELESS_PACKET, 0, NOOSELESS_PACKET);
+    memmove(p, p + NOOSELESS_PACKET_LEN, later * NOOSELESS_PACKET_LEN);
+    memset(p + later * NOOSELESS_PACKET_LEN, 0, NOOSELESS_PACKET_LEN);
 }
 
 static uint8_t sends(struct channel c, size_t copies, int up, uint8_t kind, uint32_t first, uint32_t second, const uint8_t *message) {
@@ -70,14 +70,14 @@ static uint8_t puts_order(uint8_t *s, const uint8_t *message) {
     put_number(s, used + 1);
     put_number(s + 4, used + 1);
     s[12] = 1;
-    memcpy(s + 14, message, NOOSELESS_MESSAGE);
+    memcpy(s + 14, message, NOOSELESS_MESSAGE_LEN);
     return NOOSELESS_NOTHING;
 }
 
 static uint8_t console_takes(uint8_t *s, struct channel from, struct channel to, size_t place, size_t copies) {
     if (!s[13]) return NOOSELESS_IS_DOWN;
     if (place >= *from.count) return NOOSELESS_NO_PLACE;
-    const uint8_t *p = from.table + place * NOOSELESS_PACKET;
+    const uint8_t *p = from.table + place * NOOSELESS_PACKET_LEN;
     uint8_t kind = p[5], report = NOOSELESS_NOTHING;
     uint32_t last = number(s + 8), first = number(p + 8), i = kind == NOOSELESS_KIND_OFFER ? number(p + 12) : first;
     int taken = kind == NOOSELESS_KIND_OFFER && first == number(s + 4);
@@ -98,7 +98,7 @@ static uint8_t console_takes(uint8_t *s, struct channel from, struct channel to,
 static uint8_t controller_takes(uint8_t *s, struct channel from, struct channel to, size_t place, size_t copies, uint8_t *delivered) {
     if (!s[16]) return NOOSELESS_IS_DOWN;
     if (place >= *from.count) return NOOSELESS_NO_PLACE;
-    const uint8_t *p = from.table + place * NOOSELESS_PACKET;
+    const uint8_t *p = from.table + place * NOOSELESS_PACKET_LEN;
     uint8_t kind = p[5], report = NOOSELESS_NOTHING;
     uint32_t used = number(s), i = number(s + 8), last = number(s + 12), n = number(p + 8);
     if (kind != NOOSELESS_KIND_NEEDI && n > used) return NOOSELESS_NEVER_GIVEN;
@@ -115,7 +115,7 @@ static uint8_t controller_takes(uint8_t *s, struct channel from, struct channel 
         memset(s + 4, 0, 8);
         if (kind == NOOSELESS_KIND_DATA) {
             put_number(s + 12, n);
-            memcpy(delivered, p + 16, NOOSELESS_MESSAGE);
+            memcpy(delivered, p + 16, NOOSELESS_MESSAGE_LEN);
             answer = NOOSELESS_KIND_OK;
             report = NOOSELESS_DELIVERED;
         }
@@ -147,7 +147,7 @@ uint8_t peer_bench_step(uint8_t *s, size_t n, uint8_t *out, size_t out_len, uint
         ['M'] = LETTER, ['Q'] = COPIES, ['D'] = COPIES, ['S'] = COPIES, ['O'] = COPIES, ['K'] = COPIES, ['R'] = COPIES};
     uint8_t *d = s + CONTROLLER;
     if (uses[letter] == 0) return NOOSELESS_NO_ACTION;
-    if (n != NOOSELESS_BENCH_STATE || !console_well(s) || !controller_well(d)) return NOOSELESS_ILL_FORMED;
+    if (n != NOOSELESS_BENCH_STATE_LEN || !console_well(s) || !controller_well(d)) return NOOSELESS_ILL_FORMED;
     if (!well(out, out_len, s[SENT], 1) || !well(back, back_len, s[RETURNED], 0)) return NOOSELESS_ILL_FORMED;
     if (letter == 'P' && !all_cells(message)) return NOOSELESS_NO_CELL;
     if (uses[letter] == COPIES && copies > 3) return NOOSELESS_MANY_COPIES;

@@ -9,7 +9,7 @@ timer=/usr/bin/time
     exit 2
 }
 mkdir -p target/measure
-all=$(sed -n 's/^\([a-z]*\):.*/\1/p' crates.txt)
+all=$(sed -n 's/^\([a-z0-9]*\):.*/\1/p' crates.txt)
 printf '%-12s %8s %8s\n' crate seconds MB
 for crate in ${*:-$all}; do
     rt check "$crate" >target/measure/check.log 2>&1 || {

@@ -6,13 +6,13 @@
 #include "numbers.h"
 
 static inline int all_are(const uint8_t *p, uint8_t b) {
-    for (int i = 0; i < NOOSELESS_MESSAGE; i++)
+    for (int i = 0; i < NOOSELESS_MESSAGE_LEN; i++)
         if (p[i] != b) return 0;
     return 1;
 }
 
 static inline int all_cells(const uint8_t *p) {
-    for (int i = 0; i < NOOSELESS_MESSAGE; i++)
+    for (int i = 0; i < NOOSELESS_MESSAGE_LEN; i++)
         if (p[i] < 0x20 || p[i] > 0x7E) return 0;
     return 1;
 }
@@ -23,7 +23,7 @@ struct packet {
 };
 
 static inline uint8_t read_packet(const uint8_t *p, size_t n, struct packet *out) {
-    if (n != NOOSELESS_PACKET) return NOOSELESS_WRONG_LENGTH;
+    if (n != NOOSELESS_PACKET_LEN) return NOOSELESS_WRONG_LENGTH;
     if (p[0] != 'H' || p[1] != 'S' || p[2] != 'L') return NOOSELESS_WRONG_MARK;
     if (p[3] != 0 || p[4] != 1) return NOOSELESS_WRONG_VERSION;
     if (p[6] != 0 || p[7] != 0) return NOOSELESS_WRONG_FIELD;
@@ -45,7 +45,7 @@ static inline void write_packet(uint8_t *p, uint8_t kind, uint32_t first, uint32
     p[5] = kind;
     put_number(p + 8, first);
     put_number(p + 12, second);
-    __builtin_memset(p + 16, 0, NOOSELESS_MESSAGE);
+    __builtin_memset(p + 16, 0, NOOSELESS_MESSAGE_LEN);
 }
 
 /* ---- states of the ends; what is no state is not well formed ---- */
@@ -64,7 +64,7 @@ static inline int controller_well(const uint8_t *s) {
 /* A console that holds no message. */
 static inline void rest(uint8_t *s) {
     __builtin_memset(s + 8, 0, 5);
-    __builtin_memset(s + 14, 0x20, NOOSELESS_MESSAGE);
+    __builtin_memset(s + 14, 0x20, NOOSELESS_MESSAGE_LEN);
 }
 
 #endif

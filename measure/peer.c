@@ -6,9 +6,9 @@
 #include "peer.h"
 
 uint8_t peer_r(uint8_t *s, size_t n, const uint8_t *packet, size_t packet_len, uint8_t *reply, size_t reply_len, uint8_t *delivered) {
-    if (n != NOOSELESS_CONTROLLER_STATE || !controller_well(s)) return NOOSELESS_ILL_FORMED;
+    if (n != NOOSELESS_CONTROLLER_STATE_LEN || !controller_well(s)) return NOOSELESS_ILL_FORMED;
     uint32_t used = number(s), i = number(s + 8), last = number(s + 12);
-    if (reply_len != NOOSELESS_PACKET) return NOOSELESS_WRONG_LENGTH;
+    if (reply_len != NOOSELESS_PACKET_LEN) return NOOSELESS_WRONG_LENGTH;
     struct packet p;
     uint8_t refusal = read_packet(packet, packet_len, &p);
     if (refusal) return refusal;
@@ -28,7 +28,7 @@ uint8_t peer_r(uint8_t *s, size_t n, const uint8_t *packet, size_t packet_len, u
         __builtin_memset(s + 4, 0, 8);
         if (p.kind == NOOSELESS_KIND_DONE) return NOOSELESS_NOTHING;
         put_number(s + 12, i);
-        __builtin_memcpy(delivered, packet + 16, NOOSELESS_MESSAGE);
+        __builtin_memcpy(delivered, packet + 16, NOOSELESS_MESSAGE_LEN);
         write_packet(reply, NOOSELESS_KIND_OK, i, 0);
         return NOOSELESS_DELIVERED | NOOSELESS_SENT;
     }
@@ -42,9 +42,9 @@ uint8_t peer_r(uint8_t *s, size_t n, const uint8_t *packet, size_t packet_len, u
 }
 
 uint8_t peer_s(uint8_t *s, size_t n, const uint8_t *packet, size_t packet_len, uint8_t *reply, size_t reply_len) {
-    if (n != NOOSELESS_CONSOLE_STATE || !console_well(s)) return NOOSELESS_ILL_FORMED;
+    if (n != NOOSELESS_CONSOLE_STATE_LEN || !console_well(s)) return NOOSELESS_ILL_FORMED;
     uint32_t j = number(s + 4), last = number(s + 8);
-    if (reply_len != NOOSELESS_PACKET) return NOOSELESS_WRONG_LENGTH;
+    if (reply_len != NOOSELESS_PACKET_LEN) return NOOSELESS_WRONG_LENGTH;
     struct packet p;
     uint8_t refusal = read_packet(packet, packet_len, &p);
     if (refusal) return refusal;

@@ -9,10 +9,10 @@ static struct lent ours, theirs;
 
 /* The bench of the given bytes, its tables the second program's. Bytes that are no state make ends that are not well formed. */
 static Bench bench_from(struct lent *l) {
-    int whole = call.state_len == NOOSELESS_BENCH_STATE;
+    int whole = call.state_len == NOOSELESS_BENCH_STATE_LEN;
     Bench b;
-    b.console = console_from(l->state, whole ? NOOSELESS_CONSOLE_STATE : 0);
-    b.controller = controller_from(l->state + NOOSELESS_CONSOLE_STATE, whole ? NOOSELESS_CONTROLLER_STATE : 0);
+    b.console = console_from(l->state, whole ? NOOSELESS_CONSOLE_STATE_LEN : 0);
+    b.controller = controller_from(l->state + NOOSELESS_CONSOLE_STATE_LEN, whole ? NOOSELESS_CONTROLLER_STATE_LEN : 0);
     b.to_controller = (Channel){l->out, call.out_len, whole ? l->state[47] : PLACES + 1};
     b.to_console = (Channel){l->back, call.back_len, whole ? l->state[48] : PLACES + 1};
     return b;
@@ -69,7 +69,7 @@ static unsigned rules_of(const Bench *b) {
 
 static void state_to(const Bench *b, uint8_t *s) {
     console_to(&b->console, s);
-    controller_to(&b->controller, s + NOOSELESS_CONSOLE_STATE);
+    controller_to(&b->controller, s + NOOSELESS_CONSOLE_STATE_LEN);
     s[47] = (uint8_t)b->to_controller.count;
     s[48] = (uint8_t)b->to_console.count;
 }
@@ -97,7 +97,7 @@ static void fresh(void) {
     entry = "nooseless_bench_fresh";
     ours = theirs = given;
     int refusal = 2;
-    if (call.state_len == NOOSELESS_BENCH_STATE) refusal = fresh_bench(&b, j, i, theirs.out, call.out_len, theirs.back, call.back_len);
+    if (call.state_len == NOOSELESS_BENCH_STATE_LEN) refusal = fresh_bench(&b, j, i, theirs.out, call.out_len, theirs.back, call.back_len);
     if (refusal == 0) state_to(&b, theirs.state);
     check(nooseless_bench_fresh(ours.state, call.state_len, ours.out, call.out_len, ours.back, call.back_len, j, i) == refusal);
     check(!memcmp(&ours, &theirs, sizeof ours));
@@ -136,7 +136,7 @@ void one_of_benches(void) {
 /* Every bit of a state and of both tables turned, one at a time. */
 static void every_bit(void) {
     static uint8_t *const parts[] = {given.state, given.out, given.back};
-    static const size_t lengths[] = {NOOSELESS_BENCH_STATE, TABLE_BYTES, TABLE_BYTES};
+    static const size_t lengths[] = {NOOSELESS_BENCH_STATE_LEN, TABLE_BYTES, TABLE_BYTES};
     for (int part = 0; part < 3; part++)
         for (size_t i = 0; i < 8 * lengths[part]; i++) {
             next_case();

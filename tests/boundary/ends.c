@@ -19,7 +19,7 @@ static void some_console(uint8_t *s) {
     if (mode == 2) c.last = some_number();
     if (c.held) some_message(c.message);
     console_to(&c, s);
-    if (roll(8) == 0) damage(s, NOOSELESS_CONSOLE_STATE);
+    if (roll(8) == 0) damage(s, NOOSELESS_CONSOLE_STATE_LEN);
     if (roll(40) == 0) scribble(s, ROOM);
 }
 
@@ -34,7 +34,7 @@ static void some_controller(uint8_t *s) {
     }
     if (mode == 2) c.last = roll(2) ? c.last_used : some_number();
     controller_to(&c, s);
-    if (roll(8) == 0) damage(s, NOOSELESS_CONTROLLER_STATE);
+    if (roll(8) == 0) damage(s, NOOSELESS_CONTROLLER_STATE_LEN);
     if (roll(40) == 0) scribble(s, ROOM);
 }
 
@@ -57,7 +57,7 @@ static unsigned lent_rules(const char *senders) {
 /* 4, 5, 6 and 8, of ill-formed bytes too: a flag that is neither 0 nor 1 says nothing, the numbers and the other flag still do. */
 static unsigned console_end_rules(void) {
     const uint8_t *s = box.state;
-    if (asked.state_len != NOOSELESS_CONSOLE_STATE) return 0;
+    if (asked.state_len != NOOSELESS_CONSOLE_STATE_LEN) return 0;
     switch (asked.letter) {
     case 'P': return rule(4, s[13] == 0) | rule(6, s[12] == 1) | rule(8, get_number(s) == UINT32_MAX);
     case 'Q': return rule(4, s[13] == 0) | rule(6, get_number(s + 4) == 0);
@@ -71,7 +71,7 @@ static unsigned console_end_rules(void) {
 /* 4, 5, 6 and 7, likewise. */
 static unsigned controller_end_rules(void) {
     const uint8_t *s = box.state;
-    if (asked.state_len != NOOSELESS_CONTROLLER_STATE) return 0;
+    if (asked.state_len != NOOSELESS_CONTROLLER_STATE_LEN) return 0;
     PacketRead r = read_packet(box.in, asked.in_len);
     int bears_i = r.refusal == 0 && (r.packet.kind == DATA || r.packet.kind == DONE);
     switch (asked.letter) {
@@ -160,7 +160,7 @@ void started(int controller, int downed) {
         refusal = r.refusal == 0 && r.record.end != (controller ? CONTROLLER_RECORD : CONSOLE_RECORD) ? 15 : r.refusal;
         last = refusal == 0 ? r.record.last_used : 0;
     }
-    if (n != (controller ? NOOSELESS_CONTROLLER_STATE : NOOSELESS_CONSOLE_STATE)) refusal = 2;
+    if (n != (controller ? NOOSELESS_CONTROLLER_STATE_LEN : NOOSELESS_CONSOLE_STATE_LEN)) refusal = 2;
     if (refusal == 0 && controller) {
         Controller c = downed ? controller_after_power_loss(last) : fresh_controller(last);
         controller_to(&c, theirs.state);
@@ -199,7 +199,7 @@ static void some_box(int controller) {
     some_message(box.message);
     if (controller) some_controller(box.state);
     else some_console(box.state);
-    asked.state_len = some_length(controller ? NOOSELESS_CONTROLLER_STATE : NOOSELESS_CONSOLE_STATE);
+    asked.state_len = some_length(controller ? NOOSELESS_CONTROLLER_STATE_LEN : NOOSELESS_CONSOLE_STATE_LEN);
 }
 
 static void some_step(int controller) {

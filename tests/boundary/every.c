@@ -14,7 +14,7 @@ static void good_console(uint32_t mode, int down, int spent) {
     entry = "a valid console";
     check(console_well_formed(&c));
     console_to(&c, box.state);
-    asked.state_len = NOOSELESS_CONSOLE_STATE;
+    asked.state_len = NOOSELESS_CONSOLE_STATE_LEN;
 }
 
 /* Idle, accept and ack. */
@@ -29,7 +29,7 @@ static void good_controller(uint32_t mode, int down, int spent) {
     entry = "a valid controller";
     check(controller_well_formed(&c));
     controller_to(&c, box.state);
-    asked.state_len = NOOSELESS_CONTROLLER_STATE;
+    asked.state_len = NOOSELESS_CONTROLLER_STATE_LEN;
 }
 
 /* Numbers from 1 to 5: those of the end, others, and one that was never given. */
@@ -78,9 +78,9 @@ static void every_record_bit(int spent) {
             turn(box.in, i);
             asked.in_len = NUMBER_RECORD_BYTES;
             record_read(box.in, NUMBER_RECORD_BYTES);
-            asked.state_len = NOOSELESS_CONSOLE_STATE;
+            asked.state_len = NOOSELESS_CONSOLE_STATE_LEN;
             started(0, 1);
-            asked.state_len = NOOSELESS_CONTROLLER_STATE;
+            asked.state_len = NOOSELESS_CONTROLLER_STATE_LEN;
             started(1, 1);
         }
 }
@@ -100,7 +100,7 @@ static void state_everywhere(int controller) {
 }
 
 static void every_state_bit(int controller, int spent) {
-    size_t bits = 8 * (controller ? NOOSELESS_CONTROLLER_STATE : NOOSELESS_CONSOLE_STATE);
+    size_t bits = 8 * (controller ? NOOSELESS_CONTROLLER_STATE_LEN : NOOSELESS_CONSOLE_STATE_LEN);
     for (uint32_t mode = 0; mode < 3; mode++)
         for (int down = 0; down < 2; down++)
             for (size_t i = 0; i < bits; i++) {

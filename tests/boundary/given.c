@@ -100,10 +100,10 @@ void good_bench(void) {
     Console c = good_console();
     Controller d = good_controller();
     console_to(&c, given.state);
-    controller_to(&d, given.state + NOOSELESS_CONSOLE_STATE);
+    controller_to(&d, given.state + NOOSELESS_CONSOLE_STATE_LEN);
     uint32_t out = some_count(), back = some_count();
     set_counts(out, back);
-    call.state_len = NOOSELESS_BENCH_STATE;
+    call.state_len = NOOSELESS_BENCH_STATE_LEN;
     call.out_len = call.back_len = TABLE_BYTES;
 }
 
@@ -146,22 +146,22 @@ static void spoil_console(void) {
     case 3: set_number(s + 8, some_number()); break;
     case 4: s[14 + roll(CELLS)] = (uint8_t)roll(256); break;
     case 5: set_number(s, some_number()); break;
-    default: damage(s, NOOSELESS_CONSOLE_STATE);
+    default: damage(s, NOOSELESS_CONSOLE_STATE_LEN);
     }
 }
 
 static void spoil_controller(void) {
-    uint8_t *s = given.state + NOOSELESS_CONSOLE_STATE;
+    uint8_t *s = given.state + NOOSELESS_CONSOLE_STATE_LEN;
     switch (roll(4)) {
     case 0: s[16] = (uint8_t)(2 + roll(254)); break;
     case 1: case 2: set_number(s + 4 * roll(4), some_number()); break;
-    default: damage(s, NOOSELESS_CONTROLLER_STATE);
+    default: damage(s, NOOSELESS_CONTROLLER_STATE_LEN);
     }
 }
 
 static void spoil_length(void) {
     size_t *lengths[] = {&call.state_len, &call.out_len, &call.back_len};
-    uint32_t which = roll(3), right = which == 0 ? NOOSELESS_BENCH_STATE : TABLE_BYTES;
+    uint32_t which = roll(3), right = which == 0 ? NOOSELESS_BENCH_STATE_LEN : TABLE_BYTES;
     switch (roll(4)) {
     case 0: *lengths[which] = roll(right + AROUND); break;
     case 1: *lengths[which] = right - 1 + 2 * roll(2); break;
@@ -199,7 +199,7 @@ void spoil(void) {
     case 0: case 1: spoil_console(); break;
     case 2: case 3: spoil_controller(); break;
     case 4: spoil_length(); break;
-    case 5: damage(given.state, NOOSELESS_BENCH_STATE); break;
+    case 5: damage(given.state, NOOSELESS_BENCH_STATE_LEN); break;
     default: spoil_table();
     }
 }

@@ -8,7 +8,7 @@
 
 /* Whatever a call is lent, with bytes around it. */
 struct lent {
-    uint8_t before[AROUND], state[NOOSELESS_BENCH_STATE], gap1[AROUND], out[TABLE_BYTES], gap2[AROUND], back[TABLE_BYTES], gap3[AROUND],
+    uint8_t before[AROUND], state[NOOSELESS_BENCH_STATE_LEN], gap1[AROUND], out[TABLE_BYTES], gap2[AROUND], back[TABLE_BYTES], gap3[AROUND],
         message[CELLS], gap4[AROUND], delivered[CELLS], after[AROUND];
 };
 

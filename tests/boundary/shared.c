@@ -104,7 +104,7 @@ void console_to(const Console *c, uint8_t *s) {
 Console console_from(const uint8_t *s, size_t n) {
     Console c = fresh_console(0);
     c.j = 1;
-    if (n != NOOSELESS_CONSOLE_STATE || s[12] > 1 || s[13] > 1) return c;
+    if (n != NOOSELESS_CONSOLE_STATE_LEN || s[12] > 1 || s[13] > 1) return c;
     c.last_used = get_number(s);
     c.j = get_number(s + 4);
     c.last = get_number(s + 8);
@@ -125,7 +125,7 @@ void controller_to(const Controller *c, uint8_t *s) {
 Controller controller_from(const uint8_t *s, size_t n) {
     Controller c = fresh_controller(0);
     c.j = 1;
-    if (n != NOOSELESS_CONTROLLER_STATE || s[16] > 1) return c;
+    if (n != NOOSELESS_CONTROLLER_STATE_LEN || s[16] > 1) return c;
     c.last_used = get_number(s);
     c.j = get_number(s + 4);
     c.i = get_number(s + 8);

@@ -31,14 +31,14 @@ static size_t used_by(void (*f)(void)) {
     return sizeof painted - i;
 }
 
-static uint8_t console[NOOSELESS_CONSOLE_STATE], controller[NOOSELESS_CONTROLLER_STATE];
-static uint8_t record[NOOSELESS_RECORD], message[NOOSELESS_MESSAGE], delivered[NOOSELESS_MESSAGE];
-static uint8_t in[NOOSELESS_PACKET], out[NOOSELESS_PACKET];
-static uint8_t bench[NOOSELESS_BENCH_STATE], forth[NOOSELESS_TABLE], home[NOOSELESS_TABLE];
-static uint8_t list[200 * NOOSELESS_LIST_RECORD], lines[200 * NOOSELESS_LINE];
+static uint8_t console[NOOSELESS_CONSOLE_STATE_LEN], controller[NOOSELESS_CONTROLLER_STATE_LEN];
+static uint8_t record[NOOSELESS_RECORD_LEN], message[NOOSELESS_MESSAGE_LEN], delivered[NOOSELESS_MESSAGE_LEN];
+static uint8_t in[NOOSELESS_PACKET_LEN], out[NOOSELESS_PACKET_LEN];
+static uint8_t bench[NOOSELESS_BENCH_STATE_LEN], forth[NOOSELESS_TABLE_LEN], home[NOOSELESS_TABLE_LEN];
+static uint8_t list[200 * NOOSELESS_LIST_RECORD_LEN], lines[200 * NOOSELESS_LINE_LEN];
 static volatile uint8_t letter, told; /* the compiler doesn't see what the calls below read and write */
 static volatile size_t place, copies, written;
-static uint8_t kind, cells[NOOSELESS_MESSAGE];
+static uint8_t kind, cells[NOOSELESS_MESSAGE_LEN];
 static uint32_t first, second;
 
 static void step_console(void) {
@@ -97,7 +97,7 @@ static void stepped(int which) {
 
 /* An end's step, now and then after power loss. */
 static void alone(void) {
-    static uint8_t air[2][16][NOOSELESS_PACKET];
+    static uint8_t air[2][16][NOOSELESS_PACKET_LEN];
     int end = (int)below(&chance, 2);
     letter = (uint8_t)(end ? "OKRRRRRR" : "PQDSSSSS")[below(&chance, 8)];
     memcpy(in, air[end][below(&chance, 3) ? 0 : below(&chance, 16)], sizeof in);
@@ -133,8 +133,8 @@ static void together(void) {
 }
 
 static void played(void) {
-    for (uint8_t *r = list; r < list + sizeof list; r += NOOSELESS_LIST_RECORD) {
-        memcpy(r, "P000                \n", NOOSELESS_LIST_RECORD);
+    for (uint8_t *r = list; r < list + sizeof list; r += NOOSELESS_LIST_RECORD_LEN) {
+        memcpy(r, "P000                \n", NOOSELESS_LIST_RECORD_LEN);
         r[0] = (uint8_t)"PQDSSSSCVOKRRRRXYLM?"[below(&chance, 20)];
         if (strchr("QDSOKR", r[0])) r[3] = (uint8_t)('0' + below(&chance, 4));
     }

@@ -31,7 +31,7 @@ static void may_fail(void) {
 
 static struct left {
     int keep, show, send;
-    uint8_t record[NOOSELESS_RECORD], reply[NOOSELESS_PACKET];
+    uint8_t record[NOOSELESS_RECORD_LEN], reply[NOOSELESS_PACKET_LEN];
 } left[2];
 
 static void rule(int kept) {
@@ -42,19 +42,19 @@ void stepped(int end, uint8_t told, const uint8_t *before, const uint8_t *after,
     struct left *l = &left[end];
     rule(!l->keep && !l->show && !l->send);
     memset(l, 0, sizeof *l);
-    int changed = memcmp(before, after, NOOSELESS_RECORD) != 0;
+    int changed = memcmp(before, after, NOOSELESS_RECORD_LEN) != 0;
     rule(changed == (!nooseless_is_refusal(told) && (told & NOOSELESS_KEEP) != 0));
     if (nooseless_is_refusal(told)) return;
     l->keep = changed;
     l->show = nooseless_report(told);
     l->send = (told & NOOSELESS_SENT) != 0;
-    memcpy(l->record, after, NOOSELESS_RECORD);
-    memcpy(l->reply, reply, NOOSELESS_PACKET);
+    memcpy(l->record, after, NOOSELESS_RECORD_LEN);
+    memcpy(l->reply, reply, NOOSELESS_PACKET_LEN);
     may_fail();
 }
 
 static void kept(int end, const uint8_t *record) {
-    rule(left[end].keep && memcmp(record, left[end].record, NOOSELESS_RECORD) == 0);
+    rule(left[end].keep && memcmp(record, left[end].record, NOOSELESS_RECORD_LEN) == 0);
     left[end].keep = 0;
 }
 
@@ -64,21 +64,21 @@ static void shown(int end, uint8_t report) {
 }
 
 static void sent(int end, const uint8_t *packet) {
-    rule(!left[end].keep && !left[end].show && left[end].send && memcmp(packet, left[end].reply, NOOSELESS_PACKET) == 0);
+    rule(!left[end].keep && !left[end].show && left[end].send && memcmp(packet, left[end].reply, NOOSELESS_PACKET_LEN) == 0);
     left[end].send = 0;
 }
 
 /* ---- Flash: a record with its check sum in two places. A place is erased and then written byte by byte ---- */
 
-#define PLACE (NOOSELESS_RECORD + 4)
+#define PLACE (NOOSELESS_RECORD_LEN + 4)
 
 static uint8_t places[2][2][PLACE];
 
 static void with_sum(uint8_t *whole, const uint8_t *record) {
     uint32_t sum = 2166136261u;
-    for (int i = 0; i < NOOSELESS_RECORD; i++) sum = (sum ^ record[i]) * 16777619u;
-    memcpy(whole, record, NOOSELESS_RECORD);
-    memcpy(whole + NOOSELESS_RECORD, &sum, sizeof sum);
+    for (int i = 0; i < NOOSELESS_RECORD_LEN; i++) sum = (sum ^ record[i]) * 16777619u;
+    memcpy(whole, record, NOOSELESS_RECORD_LEN);
+    memcpy(whole + NOOSELESS_RECORD_LEN, &sum, sizeof sum);
 }
 
 static void write_place(uint8_t *place, const uint8_t *record) {
@@ -103,7 +103,7 @@ static void keep(int end, const uint8_t *record) {
 static int reads(const uint8_t *place, uint32_t *number) {
     uint8_t whose, whole[PLACE];
     with_sum(whole, place);
-    return memcmp(whole, place, PLACE) == 0 && nooseless_read_record(place, NOOSELESS_RECORD, &whose, number) == 0;
+    return memcmp(whole, place, PLACE) == 0 && nooseless_read_record(place, NOOSELESS_RECORD_LEN, &whose, number) == 0;
 }
 
 /* The larger of those that are whole; then the other is written anew from it. */
@@ -112,22 +112,22 @@ static size_t load(int end, uint8_t *record) {
     int first = reads(places[end][0], &a), second = reads(places[end][1], &b);
     if (!first && !second) return 0;
     int best = !first || (second && b > a);
-    memcpy(record, places[end][best], NOOSELESS_RECORD);
+    memcpy(record, places[end][best], NOOSELESS_RECORD_LEN);
     if (!first || !second || a != b) {
         torn++;
         write_place(places[end][!best], record);
     }
-    return NOOSELESS_RECORD;
+    return NOOSELESS_RECORD_LEN;
 }
 
 /* ---- Radio: whatever was sent may come at any later time, any number of times, or never; and junk ---- */
 
-static uint8_t air[2][AIR][NOOSELESS_PACKET]; /* sent by an end */
+static uint8_t air[2][AIR][NOOSELESS_PACKET_LEN]; /* sent by an end */
 static unsigned long flown[2];
 
 static void fly(int end, const uint8_t *packet) {
     may_fail();
-    memcpy(air[end][flown[end]++ % AIR], packet, NOOSELESS_PACKET);
+    memcpy(air[end][flown[end]++ % AIR], packet, NOOSELESS_PACKET_LEN);
     sent(end, packet);
     may_fail();
 }
@@ -136,7 +136,7 @@ static void fly(int end, const uint8_t *packet) {
 static int noise(int end, uint8_t *bytes, int room) {
     int length = (int)below(&chance, (uint64_t)room + 1);
     for (int i = 0; i < length; i++) bytes[i] = (uint8_t)below(&chance, 256);
-    if (length == NOOSELESS_PACKET && flown[end] > 0) memcpy(bytes, air[end][(flown[end] - 1) % AIR], NOOSELESS_PACKET);
+    if (length == NOOSELESS_PACKET_LEN && flown[end] > 0) memcpy(bytes, air[end][(flown[end] - 1) % AIR], NOOSELESS_PACKET_LEN);
     else bytes[0] = 0;
     junk++;
     return length;
@@ -149,8 +149,8 @@ static int hear(int end, uint8_t *bytes, int room) {
     if (lot == 19) return noise(end, bytes, room);
     if (lot >= 15 || count == 0) return -1;
     if (reach > count) reach = count;
-    memcpy(bytes, air[!end][(count - 1 - below(&chance, reach)) % AIR], NOOSELESS_PACKET);
-    return NOOSELESS_PACKET;
+    memcpy(bytes, air[!end][(count - 1 - below(&chance, reach)) % AIR], NOOSELESS_PACKET_LEN);
+    return NOOSELESS_PACKET_LEN;
 }
 
 /* ---- Rows and doses, and demand 3 of them ---- */
@@ -165,7 +165,7 @@ static unsigned long asked, doses, oks, losts, twice, astray, unasked, early_ok,
 
 static unsigned long number_of(const uint8_t *cells) {
     unsigned long n = 0;
-    for (int i = 6; i < NOOSELESS_MESSAGE; i++) n = 10 * n + (unsigned long)(cells[i] - '0');
+    for (int i = 6; i < NOOSELESS_MESSAGE_LEN; i++) n = 10 * n + (unsigned long)(cells[i] - '0');
     return n;
 }
 
@@ -205,20 +205,20 @@ static void answer(uint8_t told, const uint8_t *cells) {
 
 /* ---- What the loops ask of their boxes ---- */
 
-size_t console_load(uint8_t record[NOOSELESS_RECORD]) { return load(CONSOLE, record); }
-size_t controller_load(uint8_t record[NOOSELESS_RECORD]) { return load(CONTROLLER, record); }
-void console_keep(const uint8_t record[NOOSELESS_RECORD]) { keep(CONSOLE, record); }
-void controller_keep(const uint8_t record[NOOSELESS_RECORD]) { keep(CONTROLLER, record); }
+size_t console_load(uint8_t record[NOOSELESS_RECORD_LEN]) { return load(CONSOLE, record); }
+size_t controller_load(uint8_t record[NOOSELESS_RECORD_LEN]) { return load(CONTROLLER, record); }
+void console_keep(const uint8_t record[NOOSELESS_RECORD_LEN]) { keep(CONSOLE, record); }
+void controller_keep(const uint8_t record[NOOSELESS_RECORD_LEN]) { keep(CONTROLLER, record); }
 int console_hear(uint8_t *bytes, int most) { return hear(CONSOLE, bytes, most); }
 int controller_hear(uint8_t *bytes, int most) { return hear(CONTROLLER, bytes, most); }
-void console_send(const uint8_t packet[NOOSELESS_PACKET]) { fly(CONSOLE, packet); }
-void controller_send(const uint8_t packet[NOOSELESS_PACKET]) { fly(CONTROLLER, packet); }
+void console_send(const uint8_t packet[NOOSELESS_PACKET_LEN]) { fly(CONSOLE, packet); }
+void controller_send(const uint8_t packet[NOOSELESS_PACKET_LEN]) { fly(CONTROLLER, packet); }
 int console_due(void) { return below(&chance, 2) == 0; }
 int controller_due(void) { return below(&chance, 2) == 0; }
 void controller_alarm(void) { alarms++; }
 
-int console_order(uint8_t order[NOOSELESS_MESSAGE]) {
-    char text[NOOSELESS_MESSAGE + 1];
+int console_order(uint8_t order[NOOSELESS_MESSAGE_LEN]) {
+    char text[NOOSELESS_MESSAGE_LEN + 1];
     if (given + 1 >= room) {
         room = 2 * room + 64;
         orders = realloc(orders, room * sizeof *orders);
@@ -226,11 +226,11 @@ int console_order(uint8_t order[NOOSELESS_MESSAGE]) {
     }
     snprintf(text, sizeof text, "ORDER %010lu", ++given % 10000000000u);
     memset(&orders[given], 0, sizeof *orders);
-    memcpy(order, text, NOOSELESS_MESSAGE);
+    memcpy(order, text, NOOSELESS_MESSAGE_LEN);
     return 1;
 }
 
-void console_show(uint8_t told, const uint8_t order[NOOSELESS_MESSAGE]) {
+void console_show(uint8_t told, const uint8_t order[NOOSELESS_MESSAGE_LEN]) {
     may_fail();
     shown(CONSOLE, told);
     if (told == NOOSELESS_ANSWER_OK || told == NOOSELESS_ANSWER_LOST) {
@@ -245,7 +245,7 @@ void console_show(uint8_t told, const uint8_t order[NOOSELESS_MESSAGE]) {
     may_fail();
 }
 
-void controller_dose(const uint8_t order[NOOSELESS_MESSAGE]) {
+void controller_dose(const uint8_t order[NOOSELESS_MESSAGE_LEN]) {
     may_fail();
     shown(CONTROLLER, NOOSELESS_DELIVERED);
     dose(order);
@@ -287,7 +287,7 @@ static void turn(int end) {
 }
 
 static void make(int end, uint8_t whose) {
-    uint8_t record[NOOSELESS_RECORD];
+    uint8_t record[NOOSELESS_RECORD_LEN];
     if (nooseless_write_record(record, sizeof record, whose, (uint32_t)below(&chance, 1u << 20)) != 0) exit(2);
     with_sum(places[end][0], record);
     with_sum(places[end][1], record);

@@ -17,28 +17,28 @@ static void want(int so, const char *what) {
     wrong = 1;
 }
 
-static uint8_t console[NOOSELESS_CONSOLE_STATE + 2], controller[NOOSELESS_CONTROLLER_STATE + 2], bench[NOOSELESS_BENCH_STATE + 2];
-static uint8_t out[NOOSELESS_TABLE + 2], back[NOOSELESS_TABLE + 2], record[NOOSELESS_RECORD + 2];
-static uint8_t packet[NOOSELESS_PACKET + 2], reply[NOOSELESS_PACKET + 2], delivered[NOOSELESS_MESSAGE];
+static uint8_t console[NOOSELESS_CONSOLE_STATE_LEN + 2], controller[NOOSELESS_CONTROLLER_STATE_LEN + 2], bench[NOOSELESS_BENCH_STATE_LEN + 2];
+static uint8_t out[NOOSELESS_TABLE_LEN + 2], back[NOOSELESS_TABLE_LEN + 2], record[NOOSELESS_RECORD_LEN + 2];
+static uint8_t packet[NOOSELESS_PACKET_LEN + 2], reply[NOOSELESS_PACKET_LEN + 2], delivered[NOOSELESS_MESSAGE_LEN];
 static const uint8_t message[] = "START FILLER 03 ";
 
 /* One byte less and one more are refused; the length itself is not. */
 static void lengths(void) {
     for (size_t n = 0; n < 3; n++) {
         int good = n == 1;
-        size_t c = NOOSELESS_CONSOLE_STATE - 1 + n, k = NOOSELESS_CONTROLLER_STATE - 1 + n, t = NOOSELESS_TABLE - 1 + n;
+        size_t c = NOOSELESS_CONSOLE_STATE_LEN - 1 + n, k = NOOSELESS_CONTROLLER_STATE_LEN - 1 + n, t = NOOSELESS_TABLE_LEN - 1 + n;
         uint32_t first, second;
         uint8_t kind;
         want((nooseless_console_fresh(console, c, 0) == 0) == good, "length of a console's state");
         want((nooseless_controller_fresh(controller, k, 0) == 0) == good, "length of a controller's state");
-        want((nooseless_bench_fresh(bench, NOOSELESS_BENCH_STATE - 1 + n, out, NOOSELESS_TABLE, back, NOOSELESS_TABLE, 0, 0) == 0) == good,
+        want((nooseless_bench_fresh(bench, NOOSELESS_BENCH_STATE_LEN - 1 + n, out, NOOSELESS_TABLE_LEN, back, NOOSELESS_TABLE_LEN, 0, 0) == 0) == good,
              "length of a bench's state");
-        want((nooseless_bench_fresh(bench, NOOSELESS_BENCH_STATE, out, t, back, NOOSELESS_TABLE, 0, 0) == 0) == good, "length of a table");
-        want((nooseless_write_record(record, NOOSELESS_RECORD - 1 + n, NOOSELESS_CONSOLE, 0) == 0) == good, "length of a record");
+        want((nooseless_bench_fresh(bench, NOOSELESS_BENCH_STATE_LEN, out, t, back, NOOSELESS_TABLE_LEN, 0, 0) == 0) == good, "length of a table");
+        want((nooseless_write_record(record, NOOSELESS_RECORD_LEN - 1 + n, NOOSELESS_CONSOLE, 0) == 0) == good, "length of a record");
         memset(delivered, 0, sizeof delivered);
-        want((nooseless_write_packet(packet, NOOSELESS_PACKET - 1 + n, NOOSELESS_KIND_NEEDI, 1, 0, delivered) == 0) == good, "length of a packet");
-        nooseless_write_packet(packet, NOOSELESS_PACKET, NOOSELESS_KIND_DATA, 1, 0, message);
-        want((nooseless_read_packet(packet, NOOSELESS_PACKET - 1 + n, &kind, &first, &second, delivered) == 0) == good, "length of a packet read");
+        want((nooseless_write_packet(packet, NOOSELESS_PACKET_LEN - 1 + n, NOOSELESS_KIND_NEEDI, 1, 0, delivered) == 0) == good, "length of a packet");
+        nooseless_write_packet(packet, NOOSELESS_PACKET_LEN, NOOSELESS_KIND_DATA, 1, 0, message);
+        want((nooseless_read_packet(packet, NOOSELESS_PACKET_LEN - 1 + n, &kind, &first, &second, delivered) == 0) == good, "length of a packet read");
     }
 }
 
@@ -80,12 +80,12 @@ static void bytes(void) {
 static void at(size_t by) {
     static uint8_t room[8][64];
     uint8_t *c = room[0] + by, *k = room[1] + by, *p = room[2] + by, *q = room[3] + by, *m = room[4] + by, *d = room[5] + by, *r = room[6] + by;
-    memcpy(m, message, NOOSELESS_MESSAGE);
-    want(nooseless_write_record(r, NOOSELESS_RECORD, NOOSELESS_CONSOLE, 7) == 0, "a record written");
-    want(nooseless_console_downed(c, NOOSELESS_CONSOLE_STATE, r, NOOSELESS_RECORD) == 0, "a console after power loss");
-    want(nooseless_controller_fresh(k, NOOSELESS_CONTROLLER_STATE, 9) == 0, "a controller that never ran");
-#define STEP(letter) nooseless_console_step(c, NOOSELESS_CONSOLE_STATE, letter, m, q, NOOSELESS_PACKET, p, NOOSELESS_PACKET)
-#define STEP_BACK(letter) nooseless_controller_step(k, NOOSELESS_CONTROLLER_STATE, letter, p, NOOSELESS_PACKET, q, NOOSELESS_PACKET, d)
+    memcpy(m, message, NOOSELESS_MESSAGE_LEN);
+    want(nooseless_write_record(r, NOOSELESS_RECORD_LEN, NOOSELESS_CONSOLE, 7) == 0, "a record written");
+    want(nooseless_console_downed(c, NOOSELESS_CONSOLE_STATE_LEN, r, NOOSELESS_RECORD_LEN) == 0, "a console after power loss");
+    want(nooseless_controller_fresh(k, NOOSELESS_CONTROLLER_STATE_LEN, 9) == 0, "a controller that never ran");
+#define STEP(letter) nooseless_console_step(c, NOOSELESS_CONSOLE_STATE_LEN, letter, m, q, NOOSELESS_PACKET_LEN, p, NOOSELESS_PACKET_LEN)
+#define STEP_BACK(letter) nooseless_controller_step(k, NOOSELESS_CONTROLLER_STATE_LEN, letter, p, NOOSELESS_PACKET_LEN, q, NOOSELESS_PACKET_LEN, d)
     want(STEP(NOOSELESS_PUT) == NOOSELESS_IS_DOWN, "P of a console that is down");
     want(STEP(NOOSELESS_CONSOLE_BACK) == NOOSELESS_NOTHING, "V");
     want(STEP(NOOSELESS_PUT) == (NOOSELESS_NOTHING | NOOSELESS_KEEP), "P");
@@ -97,7 +97,7 @@ static void at(size_t by) {
     want(STEP(NOOSELESS_SEND_NEEDI) == NOOSELESS_OTHER_MODE, "Q in send");
     want(STEP(NOOSELESS_SEND_DATA) == (NOOSELESS_NOTHING | NOOSELESS_SENT), "D");
     want(STEP_BACK(NOOSELESS_CONTROLLER_TAKE) == (NOOSELESS_DELIVERED | NOOSELESS_SENT), "R of data");
-    want(memcmp(d, message, NOOSELESS_MESSAGE) == 0, "the cells delivered");
+    want(memcmp(d, message, NOOSELESS_MESSAGE_LEN) == 0, "the cells delivered");
     want(STEP_BACK(NOOSELESS_SEND_OFFER) == NOOSELESS_OTHER_MODE, "O in ack");
     want(STEP_BACK(NOOSELESS_SEND_OK) == (NOOSELESS_NOTHING | NOOSELESS_SENT), "K");
     want(STEP(NOOSELESS_CONSOLE_TAKE) == (NOOSELESS_ANSWER_OK | NOOSELESS_SENT), "S of OK");

@@ -4,7 +4,7 @@
     static int owed;\
     if (told & NOOSELESS_KEEP) owed = 1;\
     if (owed && (told & NOOSELESS_SENT)) {\
-        uint8_t record[NOOSELESS_RECORD];\
+        uint8_t record[NOOSELESS_RECORD_LEN];\
         nooseless_@_record(state, sizeof state, record, sizeof record);\
         @_keep(record);\
         owed = 0;\

@@ -1,8 +1,11 @@
 pub mod Bytes
 pub mod Cases
+pub mod Copies
 pub mod Determined
+pub mod Elements
 pub mod Every
 pub mod First
+pub mod Lists
 pub mod Promise
 pub mod Tests
 pub mod Vectors

@@ -3,3 +3,4 @@ pub mod Cell
 pub mod Choice
 pub mod Every
 pub mod First
+pub mod Lists

@@ -12,10 +12,10 @@ use Rattle.ground.specs.Choice.{if_then_else_}
 use Rattle.ground.specs.First.{first, applies, refusal}
 use Rattle.ground.proofs.Tests.{by-test}
 use Rattle.protocol.specs.Supply.{Supply, Lawful}
-use Rattle.protocol.specs.Letters.{Letter, P-put, Q-need, D-data, S-take, C-down, V-back, O-offer, K-ok, R-take, X-down, Y-back, L-lose, M-lose}
+use Rattle.protocol.specs.Letters.{Letter, C-down, X-down, ConsoleAsk, to-put, to-send-needI, to-send-data, ControllerAsk, to-send-offer, to-send-ok, Asks, the-console, the-controller, neither-end, line}
 use Rattle.protocol.specs.Ends.{End, Console, Controller, ConsoleMode, ControllerMode, ToController, ToConsole, ConsoleAct, ControllerAct, put, send-needI, send-data, send-offer, send-ok}
 use Rattle.protocol.specs.Ends.{Acted, Report, nothing, delivered, answered-ok, answered-lost, refused, ConsoleActed, ControllerActed, console-rules, controller-rules, console-acts, controller-acts, console-step, controller-step, ends}
-use Rattle.protocol.specs.Bench.{Bench, Action, action, Outcome, Asked, console, controller, no-end, copies-of, asks, does, fresh}
+use Rattle.protocol.specs.Bench.{Bench, Action, action, Outcome, Asked, console, controller, no-end, copies-of, asked-to, asks, does, fresh}
 use Rattle.protocol.specs.Relabel.{in-packet, in-bench, in-action, in-report, in-outcome}
 use Rattle.protocol.specs.Bears.{Any}
 use Rattle.protocol.specs.WellFormed.{Used}
@@ -206,21 +206,23 @@ module _ {S M : Type 0} where
   abbrev ghost : Console S M → Controller S → Bench S M → Bench S M
   ghost c r b = record { console = c; controller = r; toController = b .toController; toConsole = b .toConsole }
 
+  same-asked : (x : Asks) (c : Console S M) (r : Controller S) (b : Bench S M) (k : ℕ) (m : M) → asked-to x (ghost c r b) k m ≡ asked-to x b k m
+  same-asked (the-console to-put) c r b k m = refl
+  same-asked (the-console to-send-needI) c r b k m = refl
+  same-asked (the-console to-send-data) c r b k m = refl
+  same-asked (the-console ConsoleAsk.to-take) c r b k m = refl
+  same-asked (the-console ConsoleAsk.to-go-down) c r b k m = refl
+  same-asked (the-console ConsoleAsk.to-come-back) c r b k m = refl
+  same-asked (the-controller to-send-offer) c r b k m = refl
+  same-asked (the-controller to-send-ok) c r b k m = refl
+  same-asked (the-controller ControllerAsk.to-take) c r b k m = refl
+  same-asked (the-controller ControllerAsk.to-go-down) c r b k m = refl
+  same-asked (the-controller ControllerAsk.to-come-back) c r b k m = refl
+  same-asked neither-end c r b k m = refl
+
   same-asks : (c : Console S M) (r : Controller S) (b : Bench S M) (l : Letter) (k : ℕ) (m : M) → asks (ghost c r b) l k m ≡ asks b l k m
   unfolding asks
-  same-asks c r b P-put k m = refl
-  same-asks c r b Q-need k m = refl
-  same-asks c r b D-data k m = refl
-  same-asks c r b S-take k m = refl
-  same-asks c r b C-down k m = refl
-  same-asks c r b V-back k m = refl
-  same-asks c r b O-offer k m = refl
-  same-asks c r b K-ok k m = refl
-  same-asks c r b R-take k m = refl
-  same-asks c r b X-down k m = refl
-  same-asks c r b Y-back k m = refl
-  same-asks c r b L-lose k m = refl
-  same-asks c r b M-lose k m = refl
+  same-asks c r b l k m = same-asked (line l .asks) c r b k m
 
 module _ {S M : Type 0} (U : Supply S) (laws : Lawful S U) (good : M → Bool) where
   abbrev Cells : Labelled M → Bool

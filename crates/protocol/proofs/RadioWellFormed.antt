@@ -8,9 +8,9 @@ use lib.Dec.{eqb}
 use borrow.Author.Tests.{eqb-true}
 use Rattle.ground.specs.First.{refusal}
 use Rattle.protocol.specs.Supply.{Supply, Lawful}
-use Rattle.protocol.specs.Letters.{Letter, P-put, Q-need, D-data, S-take, C-down, V-back, O-offer, K-ok, R-take, X-down, Y-back, L-lose, M-lose}
+use Rattle.protocol.specs.Letters.{Letter, ConsoleAsk, to-put, to-send-needI, to-send-data, ControllerAsk, to-send-offer, to-send-ok, Asks, the-console, the-controller, neither-end, line}
 use Rattle.protocol.specs.Ends.{Console, Controller, ConsoleAct, ControllerAct, ConsoleActed, ControllerActed, console-rules, controller-rules, console-acts, controller-acts, console-step, controller-step}
-use Rattle.protocol.specs.Bench.{Bench, Asked, console, controller, no-end, copies-of, asks, fresh}
+use Rattle.protocol.specs.Bench.{Bench, Asked, console, controller, no-end, copies-of, asked-to, asks, fresh}
 use Rattle.protocol.specs.Lists.{All, Opt}
 use Rattle.protocol.specs.WellFormed.{Console-handed-ok, Controller-handed-ok, Console-ok, Controller-ok, To-controller-ok, To-console-ok}
 use Rattle.protocol.specs.Radio.{Link, Happening, acts, kept-and-cut, cut, aired, keeps, fails, asked, happens, start}
@@ -33,21 +33,23 @@ module _ {S M : Type 0} (U : Supply S) (good : M → Bool) where
   Handed-ok (controller act) = Controller-handed-ok U good act
   Handed-ok no-end = Unit {0}
 
+  asked-ok : (x : Asks) (b : Bench S M) (k : ℕ) (m : M) → All (To-controller-ok U good) (b .toController) → All (To-console-ok U) (b .toConsole) → Handed-ok (asked-to x b k m)
+  asked-ok (the-console to-put) b k m u d = tt
+  asked-ok (the-console to-send-needI) b k m u d = tt
+  asked-ok (the-console to-send-data) b k m u d = tt
+  asked-ok (the-console ConsoleAsk.to-take) b k m u d = all-at _ (b .toConsole) k d
+  asked-ok (the-console ConsoleAsk.to-go-down) b k m u d = tt
+  asked-ok (the-console ConsoleAsk.to-come-back) b k m u d = tt
+  asked-ok (the-controller to-send-offer) b k m u d = tt
+  asked-ok (the-controller to-send-ok) b k m u d = tt
+  asked-ok (the-controller ControllerAsk.to-take) b k m u d = all-at _ (b .toController) k u
+  asked-ok (the-controller ControllerAsk.to-go-down) b k m u d = tt
+  asked-ok (the-controller ControllerAsk.to-come-back) b k m u d = tt
+  asked-ok neither-end b k m u d = tt
+
   asks-ok : (b : Bench S M) (l : Letter) (k : ℕ) (m : M) → All (To-controller-ok U good) (b .toController) → All (To-console-ok U) (b .toConsole) → Handed-ok (asks b l k m)
   unfolding asks
-  asks-ok b P-put k m u d = tt
-  asks-ok b Q-need k m u d = tt
-  asks-ok b D-data k m u d = tt
-  asks-ok b S-take k m u d = all-at _ (b .toConsole) k d
-  asks-ok b C-down k m u d = tt
-  asks-ok b V-back k m u d = tt
-  asks-ok b O-offer k m u d = tt
-  asks-ok b K-ok k m u d = tt
-  asks-ok b R-take k m u d = all-at _ (b .toController) k u
-  asks-ok b X-down k m u d = tt
-  asks-ok b Y-back k m u d = tt
-  asks-ok b L-lose k m u d = tt
-  asks-ok b M-lose k m u d = tt
+  asks-ok b l k m u d = asked-ok (line l .asks) b k m u d
 
   module _ (laws : Lawful S U) where
     -- ## A step, refused or not

@@ -9,14 +9,14 @@ use lib.Dec.{eqb}
 use Rattle.ground.specs.Choice.{if_then_else_}
 use Rattle.ground.specs.First.{refusal}
 use Rattle.protocol.specs.Supply.{Supply}
-use Rattle.protocol.specs.Letters.{Letter, P-put, Q-need, D-data, S-take, C-down, V-back, O-offer, K-ok, R-take, X-down, Y-back, L-lose, M-lose}
+use Rattle.protocol.specs.Letters.{Letter, ConsoleAsk, to-put, to-send-needI, to-send-data, ControllerAsk, to-send-offer, to-send-ok, Asks, the-console, the-controller, neither-end, line}
 use Rattle.protocol.specs.Ends.{ControllerTurn, ConsoleTurn, ToController, needI, order, done, ToConsole, offer}
 use Rattle.protocol.specs.Ends.{ok, lost, ConsoleMode, in-needI, in-send, ControllerMode, in-accept, in-ack, Console, Controller, ConsoleAct}
 use Rattle.protocol.specs.Ends.{put, send-needI, send-data, ControllerAct, send-offer, send-ok, puts, needI-sent, data-sent, console-takes}
 use Rattle.protocol.specs.Ends.{controller-takes, console-turn, controller-turn, console-power, controller-power, end-after, absent, holding}
 use Rattle.protocol.specs.Ends.{unknown, console-rules, controller-rules, console-acts, controller-acts, console-step, controller-step}
 use Rattle.protocol.specs.Bench.{Bench, Action, Asked, console, controller, no-end, Taken, from-neither, from-toController, from-toConsole, at}
-use Rattle.protocol.specs.Bench.{without, copies-of, asks, missing, taken-out, does, effect, exceed, end-rules, no-room, rules-of, step}
+use Rattle.protocol.specs.Bench.{without, copies-of, asked-to, asks, missing, taken-out, does, effect, exceed, end-rules, no-room, rules-of, step}
 use Rattle.protocol.specs.Relabel.{in-packet, in-mode, in-console, in-console-act, in-controller-act, in-console-acted, in-controller-acted, in-bench, in-action, in-report, in-outcome}
 
 -- ## Lists
@@ -214,21 +214,23 @@ module _ {M N : Type 0} (f : M → N) where
 
     -- ## The bench
 
+    nat-asked-to : (x : Asks) (b : Bench S M) (k : ℕ) (m : M) → asked-to x (in-bench f b) k (f m) ≡ in-asked (asked-to x b k m)
+    nat-asked-to (the-console to-put) b k m = refl
+    nat-asked-to (the-console to-send-needI) b k m = refl
+    nat-asked-to (the-console to-send-data) b k m = refl
+    nat-asked-to (the-console ConsoleAsk.to-take) b k m = refl
+    nat-asked-to (the-console ConsoleAsk.to-go-down) b k m = refl
+    nat-asked-to (the-console ConsoleAsk.to-come-back) b k m = refl
+    nat-asked-to (the-controller to-send-offer) b k m = refl
+    nat-asked-to (the-controller to-send-ok) b k m = refl
+    nat-asked-to (the-controller ControllerAsk.to-take) b k m = rw map-at
+    nat-asked-to (the-controller ControllerAsk.to-go-down) b k m = refl
+    nat-asked-to (the-controller ControllerAsk.to-come-back) b k m = refl
+    nat-asked-to neither-end b k m = refl
+
     pub nat-asks : (b : Bench S M) (l : Letter) (k : ℕ) (m : M) → asks (in-bench f b) l k (f m) ≡ in-asked (asks b l k m)
     unfolding asks
-    nat-asks b P-put k m = refl
-    nat-asks b Q-need k m = refl
-    nat-asks b D-data k m = refl
-    nat-asks b S-take k m = refl
-    nat-asks b C-down k m = refl
-    nat-asks b V-back k m = refl
-    nat-asks b O-offer k m = refl
-    nat-asks b K-ok k m = refl
-    nat-asks b R-take k m = rw map-at
-    nat-asks b X-down k m = refl
-    nat-asks b Y-back k m = refl
-    nat-asks b L-lose k m = refl
-    nat-asks b M-lose k m = refl
+    nat-asks b l k m = nat-asked-to (line l .asks) b k m
 
     nat-missing : (t : Taken) (b : Bench S M) (k : ℕ) → missing t (in-bench f b) k ≡ missing t b k
     unfolding missing

@@ -7,7 +7,7 @@ use lib.Dec.{eqb, leb}
 use borrow.Author.Tests.{eqb-false, leb-true, le-leb, lt-leb}
 use native.Mathlib.Omega.{arith}
 use Rattle.ground.specs.Choice.{if_then_else_}
-use Rattle.protocol.specs.Supply.{Lawful, largest, next-counted, counted}
+use Rattle.protocol.specs.Supply.{Lawful, largest, next-counted, counted, Numbers, numbering}
 
 next-is : (last n : ℕ) → next-counted last ≡ some n → (n ≡ suc last) × (last ≡ largest → ⊥)
 unfolding next-counted if_then_else_
@@ -33,3 +33,6 @@ counted-lawful =
       take-sound = λ s n h e. le-leb (suc s) largest (omega (arith, next-is s n e .1, leb-true s largest h));
       back-sound = λ s h. h;
     }
+
+pub numbering-lawful : Lawful Numbers numbering
+numbering-lawful = counted-lawful

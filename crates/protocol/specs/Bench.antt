@@ -1,5 +1,5 @@
 -- The bench of document 01: two ends, two channels, the thirteen actions and their refusals. Assumes nothing.
-use Prim.Native.Nat.{ℕ, zero, suc, _+_}
+use Prim.Native.Nat.{ℕ, _+_}
 use mathlib.Core.Path.{_≡_}
 use mathlib.Core.Bool.{Bool, true, false, _&&_}
 use mathlib.Core.Option.{Option, none, some}
@@ -8,9 +8,11 @@ use lib.ListN.{length, replicate}
 use lib.Dec.{T, eqb, ltb}
 use Rattle.ground.specs.Choice.{if_then_else_}
 use Rattle.ground.specs.First.{Rule, refusal}
+unfoldable pub use Rattle.ground.specs.Lists.{at, without}
 use Rattle.protocol.specs.Supply.{Supply, next-counted}
-use Rattle.protocol.specs.Letters.{Letter, P-put, Q-need, D-data, S-take, C-down, V-back, O-offer, K-ok, R-take, X-down, Y-back, L-lose, M-lose}
+use Rattle.protocol.specs.Letters.{Letter, ConsoleAsk, to-put, to-send-needI, to-send-data, ControllerAsk, to-send-offer, to-send-ok, Asks, the-console, the-controller, neither-end}
 use Rattle.protocol.specs.Letters.{line}
+pub use Rattle.protocol.specs.Letters.{Taken, from-neither, from-toController, from-toConsole}
 use Rattle.protocol.specs.Ends.{ToController, ToConsole, ConsoleMode, ControllerMode, Console, Controller, ConsoleAct, ControllerAct, put}
 use Rattle.protocol.specs.Ends.{send-needI, send-data, send-offer, send-ok, Report, nothing, refused, absent, console-rules, controller-rules}
 use Rattle.protocol.specs.Ends.{console-acts, controller-acts, ends}
@@ -21,18 +23,6 @@ abbrev pub places : ℕ
 places = 64
 
 module _ {A : Type 0} where
-  -- the packet at a place, if the place is below the count
-  unfoldable pub at : List A → ℕ → Option A
-  at [] k = none
-  at (p ∷ ps) zero = some p
-  at (p ∷ ps) (suc k) = at ps k
-
-  -- the packet taken out: the later ones move down a place
-  unfoldable pub without : List A → ℕ → List A
-  without [] k = []
-  without (p ∷ ps) zero = ps
-  without (p ∷ ps) (suc k) = p ∷ without ps k
-
   -- copies of what is sent, side by side; of nothing, none
   unfoldable pub copies-of : ℕ → Option A → List A
   copies-of n none = []
@@ -73,39 +63,29 @@ pub data Asked (M : Type 0) : Type 0 where
   no-end : Asked M
 
 module _ {S M : Type 0} where
+  -- an end that takes a packet is given the one at the place
+  abbrev pub asked-to : Asks → Bench S M → ℕ → M → Asked M
+  asked-to (the-console to-put) b k m = console (put m)
+  asked-to (the-console to-send-needI) b k m = console send-needI
+  asked-to (the-console to-send-data) b k m = console send-data
+  asked-to (the-console ConsoleAsk.to-take) b k m = console (ConsoleAct.take (at (b .toConsole) k))
+  asked-to (the-console ConsoleAsk.to-go-down) b k m = console ConsoleAct.go-down
+  asked-to (the-console ConsoleAsk.to-come-back) b k m = console ConsoleAct.come-back
+  asked-to (the-controller to-send-offer) b k m = controller send-offer
+  asked-to (the-controller to-send-ok) b k m = controller send-ok
+  asked-to (the-controller ControllerAsk.to-take) b k m = controller (ControllerAct.take (at (b .toController) k))
+  asked-to (the-controller ControllerAsk.to-go-down) b k m = controller ControllerAct.go-down
+  asked-to (the-controller ControllerAsk.to-come-back) b k m = controller ControllerAct.come-back
+  asked-to neither-end b k m = no-end
+
   unfoldable pub asks : Bench S M → Letter → ℕ → M → Asked M
-  asks b P-put k m = console (put m)
-  asks b Q-need k m = console send-needI
-  asks b D-data k m = console send-data
-  asks b S-take k m = console (ConsoleAct.take (at (b .toConsole) k))
-  asks b C-down k m = console ConsoleAct.go-down
-  asks b V-back k m = console ConsoleAct.come-back
-  asks b O-offer k m = controller send-offer
-  asks b K-ok k m = controller send-ok
-  asks b R-take k m = controller (ControllerAct.take (at (b .toController) k))
-  asks b X-down k m = controller ControllerAct.go-down
-  asks b Y-back k m = controller ControllerAct.come-back
-  asks b L-lose k m = no-end
-  asks b M-lose k m = no-end
+  unfolding line
+  asks b l k m = asked-to (line l .asks) b k m
 
 -- R and L take a packet out of the channel to the controller, S and M out of the channel to the console
-pub data Taken : Type 0 where
-  from-neither from-toController from-toConsole : Taken
-
 unfoldable pub takes : Letter → Taken
-takes P-put = from-neither
-takes Q-need = from-neither
-takes D-data = from-neither
-takes S-take = from-toConsole
-takes C-down = from-neither
-takes V-back = from-neither
-takes O-offer = from-neither
-takes K-ok = from-neither
-takes R-take = from-toController
-takes X-down = from-neither
-takes Y-back = from-neither
-takes L-lose = from-toController
-takes M-lose = from-toConsole
+unfolding line
+takes l = line l .takes
 
 module _ {S M : Type 0} where
   -- is the place not below the count of the channel that the letter takes from?

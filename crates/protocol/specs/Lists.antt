@@ -3,18 +3,9 @@ use Prim.Native.Nat.{ℕ}
 use mathlib.Core.Path.{_≡_}
 use mathlib.Core.Logic.{_⊎_}
 use mathlib.Core.Bool.{Bool, true, false, not, _&&_, _||_}
-use mathlib.Core.Option.{Option, none, some}
 use mathlib.Core.List.{List, [], _∷_}
 use lib.Dec.{eqb}
-
--- a fact of every element, and of the one that there may be
-abbrev pub All : {A : Type 0} → (A → Type 0) → List A → Type 0
-All P [] = Unit {0}
-All P (x ∷ l) = P x × All P l
-
-abbrev pub Opt : {A : Type 0} → (A → Type 0) → Option A → Type 0
-Opt P none = Unit {0}
-Opt P (some x) = P x
+pub use Rattle.ground.specs.Lists.{All, Opt}
 
 abbrev pub In : {A : Type 0} → A → List A → Type 0
 In x [] = ⊥

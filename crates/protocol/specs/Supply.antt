@@ -1,4 +1,4 @@
--- Where an end takes its numbers from. The rules speak of any supply; document 01's own is `counted`. Assumes nothing.
+-- Where an end takes its numbers from. The rules speak of any supply; document 01's own is `counted`, which is this product's `numbering`. Assumes nothing.
 use Prim.Native.Nat.{ℕ, suc}
 use mathlib.Core.Path.{_≡_}
 use mathlib.Core.Bool.{Bool, true, false, _&&_}
@@ -45,3 +45,11 @@ counted =
       number = λ n. leb 1 n && leb n largest;
       sound = λ last. leb last largest;
     }
+
+-- ## The numbers of this product: whatever speaks of them outside the rules goes by these two names
+
+abbrev pub Numbers : Type 0
+Numbers = ℕ
+
+abbrev pub numbering : Supply Numbers
+numbering = counted

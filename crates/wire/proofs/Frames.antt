@@ -13,7 +13,7 @@ use Rattle.ground.proofs.First.{none-wanting}
 use Rattle.ground.proofs.Tests.{and-left, and-right}
 use Rattle.wire.specs.Frame.{field, bytesAre, mark, frame, readRefusals}
 use Rattle.wire.specs.Number.{bytesOf}
-use Rattle.wire.proofs.Elements.{elements, split-elements}
+use Rattle.ground.proofs.Elements.{elements, split-elements}
 
 bytes-are : (s : List ℕ) (at : ℕ) (bs : List ℕ) → bytesAre s at bs ≡ true → elements s at (length bs) ≡ bs
 bytes-are s at [] e = refl

@@ -1,6 +1,4 @@
-pub mod Copies
 pub mod Determined
-pub mod Elements
 pub mod Fitting
 pub mod Found
 pub mod Frames

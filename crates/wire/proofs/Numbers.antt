@@ -11,7 +11,7 @@ use Rattle.ground.specs.Bytes.{Bytes}
 use Rattle.ground.proofs.Bytes.{bytes-take, bytes-drop}
 use Rattle.wire.specs.Frame.{field}
 use Rattle.wire.specs.Number.{bytesOf, value}
-use Rattle.wire.proofs.Elements.{field-elements}
+use Rattle.ground.proofs.Elements.{field-elements}
 
 power : (n : ℕ) → 0 < 256 ^ n
 power n = one-le-pow n 256 (omega arith)

@@ -20,7 +20,7 @@ use Rattle.wire.specs.Frame.{field, frameRefusals, readRefusals}
 use Rattle.wire.specs.Number.{value}
 use Rattle.wire.specs.Packet.{headOf, headAt, carries, readRefusal, refused, packetRead}
 use Rattle.wire.specs.Record.{lastUsedOf, lastUsedAt, isRead, recordRefusal, recordRead}
-use Rattle.wire.proofs.Copies.{copied, rest-lent}
+use Rattle.ground.proofs.Copies.{copied, rest-lent}
 use Rattle.wire.proofs.Outcomes.{packet-read, refused-read, head-unrefused, head-refused, unrefused-long}
 
 -- the first refusal of a read: of the length, of bytes 0 to 7, and of the other fields

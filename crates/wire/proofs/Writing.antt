@@ -20,8 +20,8 @@ use Rattle.wire.specs.Frame.{frame}
 use Rattle.wire.specs.Number.{bytesOf}
 use Rattle.wire.specs.Packet.{kindOf, firstOf, secondOf, numbered, table, fits, packetBytes, writeRefusal, packetWritten}
 use Rattle.wire.specs.Record.{endOf, numberOf, recordBytes, recordWriteRefusal, recordWritten}
-use Rattle.wire.proofs.Elements.{elements, rest-elements}
-use Rattle.wire.proofs.Copies.{copied, rest-lent}
+use Rattle.ground.proofs.Elements.{elements, rest-elements}
+use Rattle.ground.proofs.Copies.{copied, rest-lent}
 
 pub fits-numbered : (p : Packet) {n r : Bool} → n ≡ numbered (p .head) → n ≡ true → r ≡ table (p .head) .message (p .message) → r ≡ fits p
 unfolding fits

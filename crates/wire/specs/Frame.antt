@@ -2,14 +2,11 @@
 use Prim.Native.Nat.{ℕ, suc}
 use mathlib.Core.Bool.{Bool, true, not, _&&_}
 use mathlib.Core.List.{List, [], _∷_, _++_}
-use lib.ListN.{length, getD, take, drop}
+use lib.ListN.{length, getD}
 use lib.Dec.{eqb}
+pub use Rattle.ground.specs.Bytes.{field}
 use Rattle.ground.specs.Choice.{if_then_else_}
 use Rattle.wire.specs.Number.{bytesOf}
-
--- n bytes from an offset on
-abbrev pub field : List ℕ → ℕ → ℕ → List ℕ
-field s at n = take n (drop at s)
 
 -- whether the bytes from an offset on are these
 abbrev pub bytesAre : List ℕ → ℕ → List ℕ → Bool

@@ -1,12 +1,12 @@
 -- Adding copies of a packet, one lent place after another.
-use Prim.Native.Nat.{ℕ, zero, suc, _+_, _-_, _*_, _≤_, _<_}
-use mathlib.Core.Path.{_≡_, refl, sym, ap, _∙_}
-use mathlib.Core.List.{List, [], _∷_, _++_, append-nil, append-assoc}
+use Prim.Native.Nat.{ℕ, _+_, _-_, _*_, _≤_, _<_}
+use mathlib.Core.Path.{_≡_, sym, _∙_}
+use mathlib.Core.List.{List, _++_, append-assoc}
 use mathlib.Core.Bool.{true, true≢false}
 use native.Mathlib.Omega.{arith}
 use native.Mathlib.Nat.{add-zero}
 use borrow.Author.Tests.{ne-eqb, le-leb, lt-leb}
-use lib.ListN.{length, take, drop, replicate, length-append, length-drop, take-append-drop, replicate-append-replicate}
+use lib.ListN.{length, take, drop, replicate, length-append, length-drop, take-append-drop}
 use lib.Seq.{length-take-le, drop-drop}
 use Rattle.ground.specs.Choice.{if_then_else_}
 use Rattle.ground.proofs.Tests.{by-test}
@@ -14,26 +14,9 @@ use Rattle.wire.specs.declared.Packet.{Packet}
 use Rattle.wire.specs.Packet.{fits, packetBytes, packetWritten}
 use Rattle.wire.proofs.Fitting.{packet-long}
 use Rattle.wire.proofs.Writing.{written-fits, out-kept, packet-written}
+use Rattle.tables.proofs.Parts.{part, replaced, part-length, put-back, back-at}
+use Rattle.tables.proofs.Places.{copies-length, copies-suc}
 use Rattle.channels.specs.Table.{laid, withCopies, added}
-use Rattle.channels.proofs.Parts.{part, replaced, part-length, put-back, back-at}
-
-module _ {A : Type 0} (bytes : A → List ℕ) where
-  pub laid-append : (xs ys : List A) → laid bytes (xs ++ ys) ≡ laid bytes xs ++ laid bytes ys
-  unfolding laid
-  laid-append [] ys = refl
-  laid-append (x ∷ xs) ys = ap (λ (l : List ℕ). bytes x ++ l) (laid-append xs ys) ∙ sym (append-assoc (bytes x) (laid bytes xs) (laid bytes ys))
-
-  copies-length : (n : ℕ) (p : A) → length (bytes p) ≡ 32 → length (laid bytes (replicate n p)) ≡ n * 32
-  unfolding laid
-  copies-length zero p h = refl
-  copies-length (suc n) p h =
-      let e = copies-length n p h in
-      length-append (bytes p) (laid bytes (replicate n p)) ∙ omega (arith, e, h)
-
-  copies-suc : (n : ℕ) (p : A) → laid bytes (replicate (n + 1) p) ≡ laid bytes (replicate n p) ++ bytes p
-  unfolding laid
-  copies-suc n p =
-      ap (λ (l : List A). laid bytes l) (sym (replicate-append-replicate n 1 p)) ∙ laid-append (replicate n p) (p ∷ []) ∙ ap (λ (l : List ℕ). laid bytes (replicate n p) ++ l) (append-nil (bytes p))
 
 module _ (t : List ℕ) (count : ℕ) (p : Packet) where
   -- the table after i copies

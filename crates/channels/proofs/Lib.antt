@@ -1,12 +1,6 @@
 pub mod Adding
 pub mod Channel
 pub mod Determined
-pub mod Handing
 pub mod Packets
-pub mod Parts
-pub mod Reading
 pub mod Scans
-pub mod Showing
-pub mod Taking
-pub mod Vectors
 pub mod Wrong

@@ -24,7 +24,7 @@ use Rattle.wire.proofs.Fitting.{Typed, fits-numbers, fits-message, blank-is, ne
 use Rattle.wire.proofs.Outcomes.{accepted-is}
 use Rattle.wire.proofs.Trips.{read-back, Taken, taken}
 use Rattle.protocol.specs.Ends.{ToController, needI, order, done, ToConsole, offer, ok, lost}
-use Rattle.protocol.specs.Supply.{counted, largest}
+use Rattle.protocol.specs.Supply.{numbering, largest}
 use Rattle.protocol.specs.WellFormed.{To-controller-ok, To-console-ok, Number}
 use Rattle.channels.specs.Packets.{toControllerBytes, asToController, toControllerRead, toConsoleBytes, asToConsole, toConsoleRead}
 use Rattle.ends.specs.Packets.{toControllerPacket, toConsolePacket}
@@ -32,13 +32,13 @@ use Rattle.channels.specs.Table.{sameWay, goes}
 use Rattle.channels.proofs.Channel.{Coded}
 
 -- a number is from 1 to 4,294,967,295
-above : (n : ℕ) → Number counted n → 0 < n
+above : (n : ℕ) → Number numbering n → 0 < n
 above n h = leb-true 1 n (and-left (leb 1 n) (leb n largest) h)
 
-below : (n : ℕ) → Number counted n → n < 2 ^ 32
+below : (n : ℕ) → Number numbering n → n < 2 ^ 32
 below n h = let k = leb-true n largest (and-right (leb 1 n) (leb n largest) h) in omega (arith, k)
 
-number : (n : ℕ) → 0 < n → n < 2 ^ 32 → Number counted n
+number : (n : ℕ) → 0 < n → n < 2 ^ 32 → Number numbering n
 number n h k = and-both (leb 1 n) (leb n largest) (le-leb 1 n h) (le-leb n largest (omega (arith, k)))
 
 -- ## Bytes that hold a packet of a direction
@@ -67,7 +67,7 @@ sent dir s b g = sent-head dir s b (packetRead s .head) refl g
 -- ## To the controller
 
 abbrev pub ToControllerOk : ToController (List ℕ) → Type 0
-ToControllerOk p = To-controller-ok counted isMessage p
+ToControllerOk p = To-controller-ok numbering isMessage p
 
 out-fits : (p : ToController (List ℕ)) → ToControllerOk p → fits (toControllerPacket p) ≡ true
 out-fits (needI j) h = needI-fits (record { 0 = j }) (above j h)
@@ -133,7 +133,7 @@ to-controller-coded =
 -- ## To the console
 
 abbrev pub ToConsoleOk : ToConsole → Type 0
-ToConsoleOk p = To-console-ok counted p
+ToConsoleOk p = To-console-ok numbering p
 
 back-fits : (p : ToConsole) → ToConsoleOk p → fits (toConsolePacket p) ≡ true
 back-fits (offer j i) h = offer-fits (record { 0 = j }) (record { 0 = i }) (above j (h .0)) (above i (h .1))

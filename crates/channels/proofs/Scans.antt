@@ -1,6 +1,6 @@
 -- The scans of a table.
 use Prim.Native.Nat.{ℕ, suc, _+_, _-_, _*_, _/_, _≤_, _<_}
-use mathlib.Core.Path.{_≡_, refl, sym, ap, _∙_}
+use mathlib.Core.Path.{_≡_, sym, ap, _∙_}
 use mathlib.Core.List.{List, []}
 use mathlib.Core.Bool.{Bool, true, false, _&&_}
 use native.Mathlib.Omega.{arith}
@@ -16,10 +16,10 @@ use Rattle.wire.specs.declared.Head.{Head}
 use Rattle.wire.specs.declared.ReadHead.{ReadHead}
 use Rattle.wire.specs.declared.ReadHead.the-variants.{Is}
 use Rattle.wire.specs.declared.ReadPacket.{ReadPacket}
-use Rattle.wire.specs.Frame.{field}
 use Rattle.wire.specs.Packet.{directionOf, packetRead}
-use Rattle.wire.proofs.Copies.{rest-lent}
+use Rattle.ground.proofs.Copies.{rest-lent}
 use Rattle.wire.proofs.Reading.{read-short}
+use Rattle.tables.specs.Table.{bytesAt}
 use Rattle.channels.specs.Table.{sameWay, goes, packetAt, placesOk, tableOk}
 
 -- a place of the table, and one that isn't there
@@ -29,7 +29,7 @@ module _ (t : List ℕ) (place : ℕ) where
   no-place h =
       let l = length-take 32 (drop (place * 32) t) in
       let d = length-drop (place * 32) t in
-      read-short [] (λ z. omega (arith, z)) ∙ sym (read-short (field t (place * 32) 32) (λ z. omega (arith, h, l, d, z)))
+      read-short [] (λ z. omega (arith, z)) ∙ sym (read-short (bytesAt t place) (λ z. omega (arith, h, l, d, z)))
 
   abbrev lent : List ℕ
   lent = take (place * 32 + 32 - place * 32) (drop (place * 32) t)

@@ -1,3 +1,2 @@
 pub mod Packets
-pub mod Shown
 pub mod Table

@@ -1,7 +1,7 @@
 use borrow.Author.Needs.{needs}
-use Rattle.channels.proofs.Taking.{takes}
-use Rattle.channels.proofs.change.take_out.Statement.{statement}
-use Rattle.channels.proofs.change.take_out.Tie as tie
+use Rattle.tables.proofs.Taking.{takes}
+use Rattle.tables.proofs.change.take_out.Statement.{statement}
+use Rattle.tables.proofs.change.take_out.Tie as tie
 
 pub take-out-spec : {M : Type 1} → statement M
 take-out-spec =

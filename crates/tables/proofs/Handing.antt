@@ -19,19 +19,19 @@ use denote.Ref.{RefT}
 use denote.Slice.{sliceVal, ShrSlice, slice-vals, shr-slice-copy}
 use denote.Steps.{owned, nothing}
 use denote.Enum.Laws as EL
-use Rattle.wire.specs.declared.Direction.{Direction}
-use Rattle.wire.proofs.Direction as D
-use Rattle.wire.proofs.Direction.Laws as D′
+use Rattle.tables.specs.declared.shown.Way.{Way}
+use Rattle.tables.proofs.shown.Way as D
+use Rattle.tables.proofs.shown.Way.Laws as D′
 
 -- what is passed, with what its types say
 pub record Passed (κ : Lft) : Type 0 where
-  pub dir : Direction
+  pub way : Way
   pub place : ℕ
   pub out : RefT (List ℕ)
   pub sent : ℕ
   pub back : RefT (List ℕ)
   pub returned : ℕ
-  pub dir-is : Is D.the-row dir (EL.vals D.the-type D′.the-laws dir)
+  pub way-is : Is D.the-row way (EL.vals D.the-type D′.the-laws way)
   pub place-fits : place < 2 ^ 64
   pub out-is : Is (ShrSlice (named 0) κ u8) out (slice-vals out)
   pub sent-fits : sent < 2 ^ 64
@@ -39,7 +39,7 @@ pub record Passed (κ : Lft) : Type 0 where
   pub returned-fits : returned < 2 ^ 64
 
 abbrev Args : Type 0
-Args = Direction × (ℕ × (RefT (List ℕ) × (ℕ × (RefT (List ℕ) × (ℕ × Unit {0})))))
+Args = Way × (ℕ × (RefT (List ℕ) × (ℕ × (RefT (List ℕ) × (ℕ × Unit {0})))))
 
 -- it, from what `walked` hands a walk
 module _ (κ : Lft) (a : Args) where
@@ -51,13 +51,13 @@ module _ (κ : Lft) (a : Args) where
 
   abbrev pub passed : Is D.the-row (a .0) (EL.vals D.the-type D′.the-laws (a .0)) × (Number (a .1 .0) × (Table (a .1 .1 .0) × (Number (a .1 .1 .1 .0) × (Table (a .1 .1 .1 .1 .0) × (Number (a .1 .1 .1 .1 .1 .0) × Unit {0}))))) → Passed κ
   passed are = record {
-    dir = a .0;
+    way = a .0;
     place = a .1 .0;
     out = a .1 .1 .0;
     sent = a .1 .1 .1 .0;
     back = a .1 .1 .1 .1 .0;
     returned = a .1 .1 .1 .1 .1 .0;
-    dir-is = are .0;
+    way-is = are .0;
     place-fits = are .1 .0 .1;
     out-is = are .1 .1 .0;
     sent-fits = are .1 .1 .1 .0 .1;
@@ -67,13 +67,13 @@ module _ (κ : Lft) (a : Args) where
 
 module _ {κ : Lft} (p : Passed κ) where
   abbrev pub args : Args
-  args = (p .dir, (p .place, (p .out, (p .sent, (p .back, (p .returned, tt))))))
+  args = (p .way, (p .place, (p .out, (p .sent, (p .back, (p .returned, tt))))))
 
   abbrev pub vals : List Val × (List Val × (List Val × (List Val × (List Val × (List Val × Unit {0})))))
-  vals = (EL.vals D.the-type D′.the-laws (p .dir), (vint w64 (p .place) ∷ [], (slice-vals (p .out), (vint w64 (p .sent) ∷ [], (slice-vals (p .back), (vint w64 (p .returned) ∷ [], tt))))))
+  vals = (EL.vals D.the-type D′.the-laws (p .way), (vint w64 (p .place) ∷ [], (slice-vals (p .out), (vint w64 (p .sent) ∷ [], (slice-vals (p .back), (vint w64 (p .returned) ∷ [], tt))))))
 
   abbrev pub values : List Val
-  values = EL.val D.the-type D′.the-laws (p .dir) ∷ vint w64 (p .place) ∷ sliceVal (p .out .ptr) (length (p .out .now)) ∷ vint w64 (p .sent) ∷ sliceVal (p .back .ptr) (length (p .back .now)) ∷ vint w64 (p .returned) ∷ []
+  values = EL.val D.the-type D′.the-laws (p .way) ∷ vint w64 (p .place) ∷ sliceVal (p .out .ptr) (length (p .out .now)) ∷ vint w64 (p .sent) ∷ sliceVal (p .back .ptr) (length (p .back .now)) ∷ vint w64 (p .returned) ∷ []
 
   abbrev S : RattleType
   S = ShrSlice (named 0) κ u8
@@ -105,7 +105,7 @@ module _ {κ : Lft} (p : Passed κ) where
         let number = uint-makes 𝓤 H A W w64 in
         qed W (‵ Both ∷ []) ∵ fsplit ! $ nothing ! $ owned ! usize (Is usize) number (p .returned) _ (refl, p .returned-fits) $ fjoin ! $ move ! (2 ∷ 0 ∷ []) $ fjoin ! $
         owned ! usize (Is usize) number (p .sent) _ (refl, p .sent-fits) $ fjoin ! $ move ! (1 ∷ 0 ∷ []) $ fjoin ! $ owned ! usize (Is usize) number (p .place) _ (refl, p .place-fits) $ fjoin ! $
-        owned ! D.the-row (Is D.the-row) (EL.makes D.the-type D′.the-plain 𝓤 H A) (p .dir) _ (p .dir-is) $ fjoin ! $ done !
+        owned ! D.the-row (Is D.the-row) (EL.makes D.the-type D′.the-plain 𝓤 H A) (p .way) _ (p .way-is) $ fjoin ! $ done !
 
     module _ (q : Share) where
       -- with the lifetime's token: as a walk enters, and keeps it

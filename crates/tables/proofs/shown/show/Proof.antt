@@ -1,4 +1,4 @@
--- `channels::show` meets its contract: a walk of its MIR, by hand. The struct is made of what two calls return. All that is known of either is that it meets its contract.
+-- `tables::show` meets its contract: a walk of its MIR, by hand. The struct is made of what two calls return. All that is known of either is that it meets its contract.
 use mathlib.Core.Path.{_≡_, refl, ap}
 use Prim.Native.Nat.{ℕ, _<_, _^_}
 use mathlib.Core.List.{List, [], _∷_}
@@ -36,25 +36,25 @@ use denote.Triple.Table.{entered, cited}
 use denote.Triple.Walked.{says, Stays, stay-none, stay-none-slice, walkOf, goes-none, goes-none-slice, Walks, ends-at, walked, walk-meets}
 use denote.Exit.{yes}
 use denote.Triple.Clauses.{ensured, lasts}
-use Rattle.wire.proofs.Direction as D
-use Rattle.wire.proofs.Direction.Laws as D′
-use Rattle.channels.specs.Shown.{showRefusal, shown, shownAt, seen, showing}
-use Rattle.channels.specs.declared.shown.Shown.{Shown}
-use Rattle.channels.proofs.Handing.{Passed, passed, args, vals, values, Both, All, all-of, Entered, enters, goes}
-use Rattle.channels.proofs.shown.Shown as T
-use Rattle.channels.proofs.shown.Shown.Laws as T′
-use Rattle.channels.proofs.shown.show_refusal as refusal
-use Rattle.channels.proofs.shown.show_refusal.Symbol as refusal-def
-use Rattle.channels.proofs.shown.show_refusal.Symbol.{name as #refusal}
-use Rattle.channels.proofs.shown.show_refusal.Met as refusal-thm
-use Rattle.channels.proofs.shown.shown_part as part
-use Rattle.channels.proofs.shown.shown_part.Symbol as part-def
-use Rattle.channels.proofs.shown.shown_part.Symbol.{name as #part}
-use Rattle.channels.proofs.shown.shown_part.Met as part-thm
-use Rattle.channels.proofs.shown.show.Key.{name as #show}
-use Rattle.channels.proofs.shown.show as show
-use Rattle.channels.proofs.shown.show.Statement as stated
-use Rattle.channels.proofs.shown.show.Code as code
+use Rattle.tables.proofs.shown.Way as D
+use Rattle.tables.proofs.shown.Way.Laws as D′
+use Rattle.tables.specs.Shown.{showRefusal, shown, shownAt, seen, showing}
+use Rattle.tables.specs.declared.shown.Shown.{Shown}
+use Rattle.tables.proofs.Handing.{Passed, passed, args, vals, values, Both, All, all-of, Entered, enters, goes}
+use Rattle.tables.proofs.shown.Shown as T
+use Rattle.tables.proofs.shown.Shown.Laws as T′
+use Rattle.tables.proofs.shown.show_refusal as refusal
+use Rattle.tables.proofs.shown.show_refusal.Symbol as refusal-def
+use Rattle.tables.proofs.shown.show_refusal.Symbol.{name as #refusal}
+use Rattle.tables.proofs.shown.show_refusal.Met as refusal-thm
+use Rattle.tables.proofs.shown.shown_part as part
+use Rattle.tables.proofs.shown.shown_part.Symbol as part-def
+use Rattle.tables.proofs.shown.shown_part.Symbol.{name as #part}
+use Rattle.tables.proofs.shown.shown_part.Met as part-thm
+use Rattle.tables.proofs.shown.show.Key.{name as #show}
+use Rattle.tables.proofs.shown.show as show
+use Rattle.tables.proofs.shown.show.Statement as stated
+use Rattle.tables.proofs.shown.show.Code as code
 
 abbrev stayed : Stays (show.ended .signature .params) (show.ended .kept)
 stayed =
@@ -95,7 +95,7 @@ module _ {M : Type 1} (𝓤 : URA M) (H : Heap 𝓤) (A : Atoms 𝓤) (W : Given
   asks-refusal = qed W ((‵ (flft κ q) ⊛ ‵ ftrue) ∷ ‵ (All p) ∷ []) ∵ use1 W (raw Halves) halved $ join ! $ frame ! $ done !
 
   abbrev Numbered : ℕ → Type 0
-  Numbered n = n ≡ showRefusal (p .dir) (p .place) (now (p .out)) (p .sent) (now (p .back)) (p .returned)
+  Numbered n = n ≡ showRefusal (p .way) (p .place) (now (p .out)) (p .sent) (now (p .back)) (p .returned)
 
   numbered : (n : ℕ) → ent 𝓤 (ensured 𝓤 H A refusal.ended (refusal.clauses 𝓤 H A mem run) (κ, (κ, tt)) (args p) tt n) (fact 𝓤 (Numbered n))
   numbered n = exE 𝓤 _ (λ ws. snd∗ 𝓤 (sem 𝓤 H A (lasts refusal.ended (κ, (κ, tt)) (args p) ws)) (fact 𝓤 (Numbered n)))
@@ -107,7 +107,7 @@ module _ {M : Type 1} (𝓤 : URA M) (H : Heap 𝓤) (A : Atoms 𝓤) (W : Given
   asks-part = qed W ((‵ (flft κ q) ⊛ ‵ ftrue) ∷ ‵ (All p) ∷ []) ∵ join ! $ frame ! $ done !
 
   abbrev Lies : RefT (List ℕ) → Type 0
-  Lies s = (now s ≡ shown (p .dir) (p .place) (now (p .out)) (p .sent) (now (p .back)) (p .returned)) × (ptr s ≡ shownAt (p .dir) (p .place) (now (p .out)) (p .sent) (now (p .back)) (p .returned) (ptr (p .out)) (ptr (p .back)))
+  Lies s = (now s ≡ shown (p .way) (p .place) (now (p .out)) (p .sent) (now (p .back)) (p .returned)) × (ptr s ≡ shownAt (p .way) (p .place) (now (p .out)) (p .sent) (now (p .back)) (p .returned) (ptr (p .out)) (ptr (p .back)))
 
   lies : (s : RefT (List ℕ)) → ent 𝓤 (ensured 𝓤 H A part.ended (part.clauses 𝓤 H A mem run) (κ, tt) (args p) tt s) (fact 𝓤 (Lies s))
   lies s = exE 𝓤 _ (λ ws. snd∗ 𝓤 (sem 𝓤 H A (lasts part.ended (κ, tt) (args p) ws)) (fact 𝓤 (Lies s)))
@@ -115,7 +115,7 @@ module _ {M : Type 1} (𝓤 : URA M) (H : Heap 𝓤) (A : Atoms 𝓤) (W : Given
   abbrev made : ℕ → RefT (List ℕ) → Shown
   made n s = record { refusal = n; part = s }
 
-  kept : (n : ℕ) (s : RefT (List ℕ)) → Numbered n → Lies s → seen (made n s) ≡ showing (p .dir) (p .place) (p .out) (p .sent) (p .back) (p .returned)
+  kept : (n : ℕ) (s : RefT (List ℕ)) → Numbered n → Lies s → seen (made n s) ≡ showing (p .way) (p .place) (p .out) (p .sent) (p .back) (p .returned)
   unfolding showing
   kept n s e l i = record { refusal = e i; bytes = l .0 i; at = l .1 i }
 
@@ -132,7 +132,7 @@ module _ {M : Type 1} (𝓤 : URA M) (H : Heap 𝓤) (A : Atoms 𝓤) (W : Given
     walk =
         qed W (raw (onEntry 𝓤 H A show.signature (κ, tt) (q, tt) (args p) (vals p)) ∷ []) ∵ enter ! C Λ code.function (values p) _ $
         alloc1 ! (λ l₀. alloc1 ! (λ l₁. alloc1 ! (λ l₂. alloc1 ! (λ l₃. alloc1 ! (λ l₄. alloc1 ! (λ l₅. alloc1 ! (λ l₆. alloc1 ! (λ l₇. alloc1 ! (λ l₈. alloc0 ! $ params1 ! $
-        pass1 ! (init ! 14 refl (EL.lawful D.the-type D′.the-laws 𝓤 H A W tt .typed (p .dir) _ (p .dir-is) .0)) $ pass1 ! (init ! 12 refl (tt, record { fits = p .place-fits })) $ pass1 ! (init ! 10 refl (shr-slice-lawful 𝓤 H A W (named 0) κ u8 .typed (p .out) _ (p .out-is) .0)) $
+        pass1 ! (init ! 14 refl (EL.lawful D.the-type D′.the-laws 𝓤 H A W tt .typed (p .way) _ (p .way-is) .0)) $ pass1 ! (init ! 12 refl (tt, record { fits = p .place-fits })) $ pass1 ! (init ! 10 refl (shr-slice-lawful 𝓤 H A W (named 0) κ u8 .typed (p .out) _ (p .out-is) .0)) $
         pass1 ! (init ! 8 refl (tt, record { fits = p .sent-fits })) $ pass1 ! (init ! 6 refl (shr-slice-lawful 𝓤 H A W (named 0) κ u8 .typed (p .back) _ (p .back-is) .0)) $ pass1 ! (init ! 4 refl (tt, record { fits = p .returned-fits })) $ pass0 ! $
         -- [_8; …; _7; …; _6; …; _5; …; _4; …; _3; …; _2; …; _1; …; room for _0; …; what is had at entry]
         move ! (18 ∷ []) $ use1 W ((‵ (flft κ q) ⊛ ‵ ftrue) ⊛ ‵ (Both p)) (enters p 𝓤 H A W q) $ split ! $
@@ -179,5 +179,5 @@ show-spec 𝓤 H 𝓜 𝓖 𝓡 =
     entered 𝓤 H (tripleOf 𝓤 H (𝓖 .A) show.signature (show.spec 𝓤 H (𝓖 .A) (𝓜 .mem) (𝓡 .run)))
     (tables 𝓤 H 𝓜 𝓡 code.env .C) (tables 𝓤 H 𝓜 𝓡 code.env .Λ) #show code.function (code.unfolded 𝓤 H 𝓜 𝓡)
     (show-meets 𝓤 H (𝓖 .A) (givenOf 𝓤 H 𝓜 𝓖) (𝓜 .mem) (𝓡 .run) (tablesOf 𝓤 H 𝓜 (tables 𝓤 H 𝓜 𝓡 code.env))
-    (cited 𝓤 H (Refusal 𝓤 H (𝓖 .A) (𝓜 .mem) (𝓡 .run)) 𝓜 𝓡 code.env #refusal refusal-def.routine code.calls-channels·shown·show-refusal (refusal-thm.met 𝓤 H 𝓜 𝓖 𝓡))
-    (cited 𝓤 H (Part 𝓤 H (𝓖 .A) (𝓜 .mem) (𝓡 .run)) 𝓜 𝓡 code.env #part part-def.routine code.calls-channels·shown·shown-part (part-thm.met 𝓤 H 𝓜 𝓖 𝓡)))
+    (cited 𝓤 H (Refusal 𝓤 H (𝓖 .A) (𝓜 .mem) (𝓡 .run)) 𝓜 𝓡 code.env #refusal refusal-def.routine code.calls-tables·shown·show-refusal (refusal-thm.met 𝓤 H 𝓜 𝓖 𝓡))
+    (cited 𝓤 H (Part 𝓤 H (𝓖 .A) (𝓜 .mem) (𝓡 .run)) 𝓜 𝓡 code.env #part part-def.routine code.calls-tables·shown·shown-part (part-thm.met 𝓤 H 𝓜 𝓖 𝓡)))

@@ -1,7 +1,7 @@
 use borrow.Author.Needs.{needs}
-use Rattle.channels.proofs.Showing.{show-refusals}
-use Rattle.channels.proofs.shown.show_refusal.Statement.{statement}
-use Rattle.channels.proofs.shown.show_refusal.Tie as tie
+use Rattle.tables.proofs.Showing.{show-refusals}
+use Rattle.tables.proofs.shown.show_refusal.Statement.{statement}
+use Rattle.tables.proofs.shown.show_refusal.Tie as tie
 
 pub show-refusal-spec : {M : Type 1} → statement M
 show-refusal-spec =

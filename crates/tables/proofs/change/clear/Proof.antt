@@ -1,11 +1,11 @@
--- `channels::clear` meets its contract. The invariant: the first i bytes are zero, the others as they were.
+-- `tables::clear` meets its contract. The invariant: the first i bytes are zero, the others as they were.
 use Prim.Native.Nat.{_≤_, _-_}
 use mathlib.Core.Path.{_≡_}
 use borrow.Author.Needs.{needs}
 use lib.ListN.{length, replicate}
-use Rattle.channels.proofs.Parts.{over, clear-on, clear-end}
-use Rattle.channels.proofs.change.clear.Statement.{statement}
-use Rattle.channels.proofs.change.clear.Tie as tie
+use Rattle.tables.proofs.Parts.{over, clear-on, clear-end}
+use Rattle.tables.proofs.change.clear.Statement.{statement}
+use Rattle.tables.proofs.change.clear.Tie as tie
 
 abbrev Inv-loop : tie.InvT-loop
 Inv-loop t₀ i₀ t i = (i ≤ length t₀) × (length t ≡ length t₀) × (t ≡ over (replicate (length t₀) 0) t₀ i)

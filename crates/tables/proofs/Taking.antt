@@ -1,4 +1,4 @@
--- Taking a packet out: the later ones moved down, then the freed last place cleared.
+-- Taking a record out: the later ones moved down, then the freed last place cleared.
 use Prim.Native.Nat.{ℕ, _+_, _-_, _*_, _≤_, _<_}
 use mathlib.Core.Path.{_≡_, ap, _∙_}
 use mathlib.Core.List.{List, _++_, append-assoc}
@@ -7,14 +7,14 @@ use borrow.Author.Tests.{ne-eqb, le-leb, lt-leb, lt-ltb, le-ltb}
 use lib.ListN.{length, take, drop, replicate, length-append, length-drop}
 use lib.Seq.{length-take-le, take-add, drop-at, drop-drop}
 use Rattle.ground.specs.Choice.{if_then_else_}
-use Rattle.wire.specs.Frame.{field}
-use Rattle.channels.specs.Table.{takenOut}
-use Rattle.channels.proofs.Parts.{part, replaced, part-length, lent-at, back-at}
+use Rattle.ground.specs.Bytes.{field}
+use Rattle.tables.specs.Table.{takenOut}
+use Rattle.tables.proofs.Parts.{part, replaced, part-length, lent-at, back-at}
 
 last-length : (q : List ℕ) → 32 ≤ length q → length (drop (length q - 32) q) ≡ 32
 last-length q h = length-drop (length q - 32) q ∙ omega (arith, h)
 
--- the part from the packet on, without the packet
+-- the part from the record on, without the record
 later : (t : List ℕ) (a e : ℕ) → a + 32 ≤ e → e ≤ length t → drop 32 (part t a e) ≡ field t (a + 32) (e - (a + 32))
 later t a e h k =
     let n = e - (a + 32) in

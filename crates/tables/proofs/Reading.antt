@@ -12,9 +12,9 @@ use contract.Monad.{Fun, fact}
 use denote.Ref.{now}
 use denote.Triple.Clauses.{AtExit}
 use denote.Triple.Entry.{Args, Res}
-use Rattle.channels.specs.Shown.{Seen, seen, showing}
-use Rattle.channels.proofs.Showing.{shown-none}
-use Rattle.channels.proofs.shown.show as show
+use Rattle.tables.specs.Shown.{Seen, seen, showing}
+use Rattle.tables.proofs.Showing.{shown-none}
+use Rattle.tables.proofs.shown.show as show
 
 abbrev pub Post : (κs : Lfts 1) → Args show.signature κs → Res show.signature κs → Type 0
 Post κs a x = seen x ≡ showing (a .0) (a .1 .0) (a .1 .1 .0) (a .1 .1 .1 .0) (a .1 .1 .1 .1 .0) (a .1 .1 .1 .1 .1 .0)

@@ -1,19 +1,19 @@
--- `channels::shown_part` meets its contract. That the refusal is 0 says that the part lies within its table.
+-- `tables::shown_part` meets its contract. That the refusal is 0 says that the part lies within its table.
 use mathlib.Core.Path.{_≡_, sym, _∙_}
 use native.Mathlib.Nat.{add-sub-cancel-left}
 use native.Mathlib.Omega.{arith}
 use borrow.Author.Needs.{needs}
 use denote.Ref.{now}
-use Rattle.channels.specs.Shown.{showRefusal}
-use Rattle.channels.proofs.Showing.{Showable, showable, shown-none, shown-some, at-none, at-some}
-use Rattle.channels.proofs.shown.shown_part.Statement.{statement}
-use Rattle.channels.proofs.shown.shown_part.Tie as tie
+use Rattle.tables.specs.Shown.{showRefusal}
+use Rattle.tables.proofs.Showing.{Showable, showable, shown-none, shown-some, at-none, at-some}
+use Rattle.tables.proofs.shown.shown_part.Statement.{statement}
+use Rattle.tables.proofs.shown.shown_part.Tie as tie
 
 -- what is known on either side of the test
-refused : (c : tie.Then1) → let a = c .before .before .before .before .args in showRefusal (a .dir) (a .place) (now (a .out)) (a .sent) (now (a .back)) (a .returned) ≡ 0 → ⊥
+refused : (c : tie.Then1) → let a = c .before .before .before .before .args in showRefusal (a .way) (a .place) (now (a .out)) (a .sent) (now (a .back)) (a .returned) ≡ 0 → ⊥
 refused c e = c .if1 .taken (c .before .show-refusal .ensures ∙ e)
 
-zero : (c : tie.Else1) → let a = c .before .before .before .before .args in showRefusal (a .dir) (a .place) (now (a .out)) (a .sent) (now (a .back)) (a .returned) ≡ 0
+zero : (c : tie.Else1) → let a = c .before .before .before .before .args in showRefusal (a .way) (a .place) (now (a .out)) (a .sent) (now (a .back)) (a .returned) ≡ 0
 zero c = sym (c .before .show-refusal .ensures) ∙ c .if1 .left
 
 fine : (c : tie.Else1) → let a = c .before .before .before .before .args in Showable (a .place) (now (a .out)) (now (a .back))

@@ -1,0 +1,9 @@
+pub mod Determined
+pub mod Handing
+pub mod Parts
+pub mod Places
+pub mod Reading
+pub mod Showing
+pub mod Taking
+pub mod Vectors
+pub mod Wrong

@@ -1,28 +1,27 @@
--- Every call of an end run alone is refused, or it is what the rules ask of that end on any bench that has the packet in.
+-- Every call of an end run alone is refused before the rules, with a number of which R holds, or it is an act of a well-formed end: the one that
+-- its letter asks, with the packet that was read. So a call is refused, or it is what the rules ask of that end on any bench that has the packet in.
 use Prim.Native.Nat.{ℕ}
-use mathlib.Core.Path.{_≡_, refl, ap, _∙_}
+use mathlib.Core.Path.{_≡_, refl, sym, ap, _∙_}
 use mathlib.Core.Logic.{_⊎_, inl, inr}
 use mathlib.Core.Bool.{true}
 use mathlib.Core.Option.{Option, none, some, Option·map}
 use mathlib.Core.List.{List}
 use lib.ListN.{length}
 use lib.Dec.{eqb}
-use Rattle.ground.specs.Cell.{isMessage, spaces}
+use Rattle.ground.specs.Cell.{isMessage}
 use Rattle.ground.specs.Choice.{if_then_else_}
+use Rattle.ground.proofs.Promise.{clash, unequal}
 use Rattle.ground.proofs.Tests.{by-test}
 use Rattle.wire.specs.Packet.{packetRead}
 use Rattle.wire.specs.declared.Head.{Head}
 use Rattle.wire.specs.declared.ReadHead.{ReadHead}
 use Rattle.wire.specs.declared.ReadHead.the-variants as read-head
-use Rattle.protocol.specs.Supply.{counted}
+use Rattle.protocol.specs.Supply.{numbering}
 use Rattle.protocol.specs.Letters as letters
-use Rattle.protocol.specs.Letters.{Letter, letter}
+use Rattle.protocol.specs.Letters.{Letter, line, letter, Asks, the-console, the-controller, neither-end, ConsoleAsk, ControllerAsk}
 use Rattle.protocol.specs.Ends as rules
-use Rattle.protocol.specs.Bench.{Bench, Asked, at, asks}
-use Rattle.protocol.specs.Relabel.{in-packet, in-console-act, in-controller-act}
-use Rattle.letters.specs.Lines.{foundOf, lineOf}
-use Rattle.ends.specs.Console as console
-use Rattle.ends.specs.Controller as controller
+use Rattle.protocol.specs.Bench.{Bench, Asked, at, asked-to, asks}
+use Rattle.protocol.specs.Relabel.{in-packet}
 use Rattle.ends.specs.Fields.{consoleOk, controllerOk}
 use Rattle.ends.specs.InRules.{consoleMeans, controllerMeans}
 use Rattle.ends.specs.Means.{forConsole, forController, toConsole, toController}
@@ -31,165 +30,232 @@ use Rattle.ends.specs.declared.ForConsole.{ForConsole}
 use Rattle.ends.specs.declared.ForConsole.the-variants as for-console
 use Rattle.ends.specs.declared.ForController.{ForController}
 use Rattle.ends.specs.declared.ForController.the-variants as for-controller
-use Rattle.ends.specs.declared.console.Act as console-act
-use Rattle.ends.specs.declared.console.Act.the-variants as console-act-is
-use Rattle.ends.specs.declared.controller.Act as controller-act
-use Rattle.ends.specs.declared.controller.Act.the-variants as controller-act-is
 use Rattle.ends.specs.declared.fields.Console.{Console}
 use Rattle.ends.specs.declared.fields.Controller.{Controller}
-use Rattle.alone.specs.Alone.{lent, early}
-use Rattle.alone.specs.ConsoleAlone.{ConsoleAlone, consoleTakes, consoleHears, consoleAsked, consoleRefused, consoleTold, consoleStepped, consoleDoes, consoleAlone}
-use Rattle.alone.specs.ControllerAlone.{ControllerAlone, refusing, controllerTakes, controllerHeard, controllerAsked, controllerRefused, controllerTold, controllerStepped, controllerDoes, controllerAlone}
-use Rattle.alone.specs.declared.console.Asked as console-asked
-use Rattle.alone.specs.declared.console.Asked.the-variants as console-asked-is
-use Rattle.alone.specs.declared.controller.Asked as controller-asked
-use Rattle.alone.specs.declared.controller.Asked.the-variants as controller-asked-is
-use Rattle.alone.specs.declared.controller.Request.{Request}
+use Rattle.alone.specs.ConsoleAlone.{ConsoleAlone, consoleRefused, consoleTold, consoleActs, consoleTakes, consoleHears, consoleLent, consoleAsked, consoleAsks, consoleLetter, consoleAlone}
+use Rattle.alone.specs.ControllerAlone.{ControllerAlone, controllerRefused, controllerTold, controllerActs, controllerTakes, controllerHead, controllerLent, controllerAsked, controllerAsks, controllerLetter, controllerAlone}
 
--- ## The console
-
--- what the packet in reads as, for the console
+-- what the packet in reads as, for each end
 abbrev pub consoleHeard : List ℕ → Option rules.ToConsole
 consoleHeard p = forConsole (readForConsole (packetRead p .head))
+
+abbrev pub controllerHeardAs : List ℕ → Option (rules.ToController (List ℕ))
+controllerHeardAs p = Option·map (in-packet (λ _. packetRead p .message)) (forController (readForController (packetRead p .head)))
+
+-- ## The act that is asked, where m is the message lent and p the packet in
+
+abbrev pub ConsoleActOf : List ℕ → List ℕ → ConsoleAsk → rules.ConsoleAct (List ℕ) → Type 0
+ConsoleActOf m p letters.to-put a = a ≡ rules.put m
+ConsoleActOf m p letters.to-send-needI a = a ≡ rules.send-needI
+ConsoleActOf m p letters.to-send-data a = a ≡ rules.send-data
+ConsoleActOf m p ConsoleAsk.to-take a = (q : rules.ToConsole) × ((consoleHeard p ≡ some q) × (a ≡ rules.ConsoleAct.take (some q)))
+ConsoleActOf m p ConsoleAsk.to-go-down a = a ≡ rules.ConsoleAct.go-down
+ConsoleActOf m p ConsoleAsk.to-come-back a = a ≡ rules.ConsoleAct.come-back
+
+abbrev pub ControllerActOf : List ℕ → ControllerAsk → rules.ControllerAct (List ℕ) → Type 0
+ControllerActOf p letters.to-send-offer a = a ≡ rules.send-offer
+ControllerActOf p letters.to-send-ok a = a ≡ rules.send-ok
+ControllerActOf p ControllerAsk.to-take a = (q : rules.ToController (List ℕ)) × ((controllerHeardAs p ≡ some q) × (a ≡ rules.ControllerAct.take (some q)))
+ControllerActOf p ControllerAsk.to-go-down a = a ≡ rules.ControllerAct.go-down
+ControllerActOf p ControllerAsk.to-come-back a = a ≡ rules.ControllerAct.come-back
+
+-- ## By act
+
+module _ (R : ℕ → Type 0) (one : R 1) (two : R 2) (twelve : R 12) (fifteen : R 15) where
+  abbrev pub HeadIs : ReadHead → Type 0
+  HeadIs (read-head.Refused n) = R n
+  HeadIs (read-head.Is h) = Unit {0}
+
+  module _ (c : Console) (m packet reply : List ℕ) (Q : ConsoleAlone → Type 0) (refuses : (n : ℕ) → R n → Q (consoleRefused n c reply)) (good : HeadIs (packetRead packet .head)) where
+    abbrev ConsoleDoes : ConsoleAsk → Type 0
+    ConsoleDoes k = (a : rules.ConsoleAct (List ℕ)) → ConsoleActOf m packet k a → consoleOk c ≡ true → Q (consoleActs c reply a)
+
+    console-lent : (x : ConsoleAlone) → Q x → Q (consoleLent c reply x)
+    unfolding consoleLent if_then_else_
+    console-lent x h = by-test (eqb (length reply) 32) (λ t. rw t h) (λ f. rw f (refuses 12 twelve))
+
+    console-came : consoleOk c ≡ true → ConsoleDoes ConsoleAsk.to-take → (h : Head) → packetRead packet .head ≡ read-head.Is h → (f : ForConsole) → headForConsole h ≡ f → Q (consoleTakes c reply f)
+    console-came ok acts h e for-console.Nothing q = refuses 15 fifteen
+    console-came ok acts h e (for-console.Packet t) q =
+        acts (rules.ConsoleAct.take (some (toConsole t))) (toConsole t, (ap (λ (z : ReadHead). forConsole (readForConsole z)) e ∙ ap forConsole q, refl)) ok
+
+    console-hears : consoleOk c ≡ true → ConsoleDoes ConsoleAsk.to-take → (h : ReadHead) → packetRead packet .head ≡ h → HeadIs h → Q (consoleHears c reply h)
+    console-hears ok acts (read-head.Refused n) e g = refuses n g
+    console-hears ok acts (read-head.Is h) e g = console-came ok acts h e (headForConsole h) refl
+
+    console-asked : consoleOk c ≡ true → (k : ConsoleAsk) → ConsoleDoes k → Q (consoleAsked c reply m packet k)
+    console-asked ok letters.to-put acts = acts (rules.put m) refl ok
+    console-asked ok letters.to-send-needI acts = console-lent _ (acts rules.send-needI refl ok)
+    console-asked ok letters.to-send-data acts = console-lent _ (acts rules.send-data refl ok)
+    console-asked ok ConsoleAsk.to-take acts = console-lent _ (console-hears ok acts (packetRead packet .head) refl good)
+    console-asked ok ConsoleAsk.to-go-down acts = acts rules.ConsoleAct.go-down refl ok
+    console-asked ok ConsoleAsk.to-come-back acts = acts rules.ConsoleAct.come-back refl ok
+
+    pub console-by-act : (byte : ℕ) → ((l : Letter) (k : ConsoleAsk) → letter byte ≡ some l → line l .asks ≡ the-console k → ConsoleDoes k) → Q (consoleAlone c byte m packet reply)
+    unfolding consoleAlone if_then_else_
+    console-by-act byte acts = by-letter (letter byte) refl
+      where
+        by-asks : (l : Letter) → letter byte ≡ some l → (a : Asks) → line l .asks ≡ a → Q (consoleAsks c reply m packet a)
+        by-asks l e (the-console k) f =
+            by-test (consoleOk c) (λ y. rw y (console-asked y k (acts l k e f))) (λ z. rw z (refuses 2 two))
+        by-asks l e (the-controller k) f = refuses 1 one
+        by-asks l e neither-end f = refuses 1 one
+
+        by-letter : (o : Option Letter) → letter byte ≡ o → Q (consoleLetter c reply m packet o)
+        by-letter none e = refuses 1 one
+        by-letter (some l) e = by-asks l e (line l .asks) refl
+
+  module _ (c : Controller) (packet reply : List ℕ) (Q : ControllerAlone → Type 0) (refuses : (n : ℕ) → R n → Q (controllerRefused n c reply)) (good : HeadIs (packetRead packet .head)) where
+    abbrev ControllerDoes : ControllerAsk → Type 0
+    ControllerDoes k = (a : rules.ControllerAct (List ℕ)) → ControllerActOf packet k a → controllerOk c ≡ true → Q (controllerActs c reply a)
+
+    controller-lent : (x : ControllerAlone) → Q x → Q (controllerLent c reply x)
+    unfolding controllerLent if_then_else_
+    controller-lent x h = by-test (eqb (length reply) 32) (λ t. rw t h) (λ f. rw f (refuses 12 twelve))
+
+    controller-came : controllerOk c ≡ true → ControllerDoes ControllerAsk.to-take → (h : Head) → packetRead packet .head ≡ read-head.Is h → (f : ForController) → headForController h ≡ f → Q (controllerTakes c reply (packetRead packet .message) f)
+    controller-came ok acts h e for-controller.Nothing q = refuses 15 fifteen
+    controller-came ok acts h e (for-controller.Packet t) q =
+        let came = in-packet (λ _. packetRead packet .message) in
+        acts (rules.ControllerAct.take (some (came (toController t))))
+        (came (toController t), (ap (λ (z : ReadHead). Option·map came (forController (readForController z))) e ∙ ap (λ (z : ForController). Option·map came (forController z)) q, refl)) ok
+
+    controller-hears : controllerOk c ≡ true → ControllerDoes ControllerAsk.to-take → (h : ReadHead) → packetRead packet .head ≡ h → HeadIs h → Q (controllerHead c reply (packetRead packet .message) h)
+    controller-hears ok acts (read-head.Refused n) e g = refuses n g
+    controller-hears ok acts (read-head.Is h) e g = controller-came ok acts h e (headForController h) refl
+
+    controller-asked : controllerOk c ≡ true → (k : ControllerAsk) → ControllerDoes k → Q (controllerAsked c reply packet k)
+    controller-asked ok letters.to-send-offer acts = controller-lent _ (acts rules.send-offer refl ok)
+    controller-asked ok letters.to-send-ok acts = controller-lent _ (acts rules.send-ok refl ok)
+    controller-asked ok ControllerAsk.to-take acts = controller-lent _ (controller-hears ok acts (packetRead packet .head) refl good)
+    controller-asked ok ControllerAsk.to-go-down acts = acts rules.ControllerAct.go-down refl ok
+    controller-asked ok ControllerAsk.to-come-back acts = acts rules.ControllerAct.come-back refl ok
+
+    pub controller-by-act : (byte : ℕ) → ((l : Letter) (k : ControllerAsk) → letter byte ≡ some l → line l .asks ≡ the-controller k → ControllerDoes k) → Q (controllerAlone c byte packet reply)
+    unfolding controllerAlone if_then_else_
+    controller-by-act byte acts = by-letter (letter byte) refl
+      where
+        by-asks : (l : Letter) → letter byte ≡ some l → (a : Asks) → line l .asks ≡ a → Q (controllerAsks c reply packet a)
+        by-asks l e (the-console k) f = refuses 1 one
+        by-asks l e (the-controller k) f =
+            by-test (controllerOk c) (λ y. rw y (controller-asked y k (acts l k e f))) (λ z. rw z (refuses 2 two))
+        by-asks l e neither-end f = refuses 1 one
+
+        by-letter : (o : Option Letter) → letter byte ≡ o → Q (controllerLetter c reply packet o)
+        by-letter none e = refuses 1 one
+        by-letter (some l) e = by-asks l e (line l .asks) refl
+
+-- of any number
+abbrev pub Whatever : ℕ → Type 0
+Whatever n = Unit {0}
+
+pub any-head : (h : ReadHead) → HeadIs Whatever tt tt tt tt h
+any-head (read-head.Refused n) = tt
+any-head (read-head.Is h) = tt
+
+-- ## What the rules ask on a bench. One letter of each end takes a packet
+
+abbrev takes : Asks → ℕ
+takes (the-console letters.to-put) = 0
+takes (the-console letters.to-send-needI) = 0
+takes (the-console letters.to-send-data) = 0
+takes (the-console ConsoleAsk.to-take) = 1
+takes (the-console ConsoleAsk.to-go-down) = 0
+takes (the-console ConsoleAsk.to-come-back) = 0
+takes (the-controller letters.to-send-offer) = 0
+takes (the-controller letters.to-send-ok) = 0
+takes (the-controller ControllerAsk.to-take) = 2
+takes (the-controller ControllerAsk.to-go-down) = 0
+takes (the-controller ControllerAsk.to-come-back) = 0
+takes neither-end = 0
+
+only-S : (l : Letter) → takes (line l .asks) ≡ 1 → l ≡ letters.S-take
+unfolding line
+only-S letters.P-put e = absurd (clash e)
+only-S letters.Q-need e = absurd (clash e)
+only-S letters.D-data e = absurd (clash e)
+only-S letters.S-take e = refl
+only-S letters.C-down e = absurd (clash e)
+only-S letters.V-back e = absurd (clash e)
+only-S letters.O-offer e = absurd (clash e)
+only-S letters.K-ok e = absurd (clash e)
+only-S letters.R-take e = absurd (unequal e refl)
+only-S letters.X-down e = absurd (clash e)
+only-S letters.Y-back e = absurd (clash e)
+only-S letters.L-lose e = absurd (clash e)
+only-S letters.M-lose e = absurd (clash e)
+
+only-R : (l : Letter) → takes (line l .asks) ≡ 2 → l ≡ letters.R-take
+unfolding line
+only-R letters.P-put e = absurd (unequal e refl)
+only-R letters.Q-need e = absurd (unequal e refl)
+only-R letters.D-data e = absurd (unequal e refl)
+only-R letters.S-take e = absurd (unequal e refl)
+only-R letters.C-down e = absurd (unequal e refl)
+only-R letters.V-back e = absurd (unequal e refl)
+only-R letters.O-offer e = absurd (unequal e refl)
+only-R letters.K-ok e = absurd (unequal e refl)
+only-R letters.R-take e = refl
+only-R letters.X-down e = absurd (unequal e refl)
+only-R letters.Y-back e = absurd (unequal e refl)
+only-R letters.L-lose e = absurd (unequal e refl)
+only-R letters.M-lose e = absurd (unequal e refl)
 
 module _ {S : Type 0} (b : Bench S (List ℕ)) (c : Console) (ok : consoleOk c ≡ true) (m p y : List ℕ) where
   -- a packet that reads as one for the console lies at a place of the bench
   abbrev pub ConsoleFinds : Type 0
   ConsoleFinds = (q : rules.ToConsole) → consoleHeard p ≡ some q → (x : ℕ) × (at (b .toConsole) x ≡ some q)
 
-  -- d is what comes of the letter l
-  abbrev ConsoleAnswers : Letter → ConsoleAlone → Type 0
-  ConsoleAnswers l d =
-      ((n : ℕ) × (d ≡ consoleRefused n c y))
-      ⊎ ((x : ℕ) × ((act : rules.ConsoleAct (List ℕ)) × ((asks b l x m ≡ Asked.console act) × (d ≡ consoleTold (rules.console-step counted isMessage (consoleMeans c) act) y))))
-
-  console-refusing : (l : Letter) (n : ℕ) → ConsoleAnswers l (consoleDoes c (console-asked-is.Refused n) m y)
-  console-refusing l n = inl (early n (consoleOk c), refl)
-
-  console-acting : (l : Letter) (x : ℕ) (a : console-act.Act) → asks b l x m ≡ Asked.console (in-console-act (λ _. m) (console.act a)) → ConsoleAnswers l (consoleDoes c (console-asked-is.Is a) m y)
-  unfolding consoleStepped if_then_else_
-  console-acting l x a q = inr (x, (in-console-act (λ _. m) (console.act a), (q, rw ok)))
-
-  console-lending : (l : Letter) (a : console-asked.Asked) → ConsoleAnswers l (consoleDoes c a m y) → ConsoleAnswers l (consoleDoes c (lent console-asked-is.Refused (length y) a) m y)
-  unfolding lent if_then_else_
-  console-lending l a more = by-test (eqb (length y) 32) (λ t. rw t more) (λ f. rw f (console-refusing l 12))
-
-  console-came : ConsoleFinds → (h : Head) → packetRead p .head ≡ read-head.Is h → (f : ForConsole) → headForConsole h ≡ f → ConsoleAnswers letters.S-take (consoleDoes c (consoleTakes f) m y)
+  console-place : (l : Letter) (k : ConsoleAsk) (a : rules.ConsoleAct (List ℕ)) → line l .asks ≡ the-console k → (l ≡ letters.S-take → ConsoleFinds) → ConsoleActOf m p k a → (x : ℕ) × (asks b l x m ≡ Asked.console a)
   unfolding asks
-  console-came finds h r for-console.Nothing q = console-refusing letters.S-take 15
-  console-came finds h r (for-console.Packet t) q =
-      let x = finds (toConsole t) (ap (λ (z : ReadHead). forConsole (readForConsole z)) r ∙ ap forConsole q) in
-      console-acting letters.S-take (x .0) (console-act-is.Take (for-console.Packet t)) (ap (λ (o : Option rules.ToConsole). Asked.console (rules.ConsoleAct.take o)) (x .1))
-
-  console-hearing : ConsoleFinds → (h : ReadHead) → packetRead p .head ≡ h → ConsoleAnswers letters.S-take (consoleDoes c (consoleHears h) m y)
-  console-hearing finds (read-head.Refused n) r = console-refusing letters.S-take n
-  console-hearing finds (read-head.Is h) r = console-came finds h r (headForConsole h) refl
-
-  console-letter : (l : Letter) → (l ≡ letters.S-take → ConsoleFinds) → ConsoleAnswers l (consoleDoes c (consoleAsked (foundOf (some l)) (packetRead p .head) (length y)) m y)
-  unfolding lineOf asks
-  console-letter letters.P-put h = console-acting letters.P-put 0 console-act-is.Put refl
-  console-letter letters.Q-need h = console-lending letters.Q-need _ (console-acting letters.Q-need 0 console-act-is.SendNeedI refl)
-  console-letter letters.D-data h = console-lending letters.D-data _ (console-acting letters.D-data 0 console-act-is.SendData refl)
-  console-letter letters.S-take h = console-lending letters.S-take _ (console-hearing (h refl) (packetRead p .head) refl)
-  console-letter letters.C-down h = console-acting letters.C-down 0 console-act-is.GoDown refl
-  console-letter letters.V-back h = console-acting letters.V-back 0 console-act-is.ComeBack refl
-  console-letter letters.O-offer h = console-refusing letters.O-offer 1
-  console-letter letters.K-ok h = console-refusing letters.K-ok 1
-  console-letter letters.R-take h = console-refusing letters.R-take 1
-  console-letter letters.X-down h = console-refusing letters.X-down 1
-  console-letter letters.Y-back h = console-refusing letters.Y-back 1
-  console-letter letters.L-lose h = console-refusing letters.L-lose 1
-  console-letter letters.M-lose h = console-refusing letters.M-lose 1
+  console-place l letters.to-put a f h g = (0, ap (λ (z : Asks). asked-to z b 0 m) f ∙ ap Asked.console (sym g))
+  console-place l letters.to-send-needI a f h g = (0, ap (λ (z : Asks). asked-to z b 0 m) f ∙ ap Asked.console (sym g))
+  console-place l letters.to-send-data a f h g = (0, ap (λ (z : Asks). asked-to z b 0 m) f ∙ ap Asked.console (sym g))
+  console-place l ConsoleAsk.to-take a f h g =
+      let x = h (only-S l (ap takes f)) (g .0) (g .1 .0) in
+      (x .0, ap (λ (z : Asks). asked-to z b (x .0) m) f ∙ ap (λ (o : Option rules.ToConsole). Asked.console (rules.ConsoleAct.take o)) (x .1) ∙ ap Asked.console (sym (g .1 .1)))
+  console-place l ConsoleAsk.to-go-down a f h g = (0, ap (λ (z : Asks). asked-to z b 0 m) f ∙ ap Asked.console (sym g))
+  console-place l ConsoleAsk.to-come-back a f h g = (0, ap (λ (z : Asks). asked-to z b 0 m) f ∙ ap Asked.console (sym g))
 
   -- refused, or the console's step in the rules
   abbrev pub ConsoleCall : ℕ → ConsoleAlone → Type 0
   ConsoleCall byte d =
       ((n : ℕ) × (d ≡ consoleRefused n c y))
-      ⊎ ((l : Letter) × ((letter byte ≡ some l) × ((x : ℕ) × ((act : rules.ConsoleAct (List ℕ)) × ((asks b l x m ≡ Asked.console act) × (d ≡ consoleTold (rules.console-step counted isMessage (consoleMeans c) act) y))))))
+      ⊎ ((l : Letter) × ((letter byte ≡ some l) × ((x : ℕ) × ((act : rules.ConsoleAct (List ℕ)) × ((asks b l x m ≡ Asked.console act) × (d ≡ consoleTold (rules.console-step numbering isMessage (consoleMeans c) act) y))))))
 
   pub console-call : (byte : ℕ) → (letter byte ≡ some letters.S-take → ConsoleFinds) → ConsoleCall byte (consoleAlone c byte m p y)
-  unfolding consoleAlone
-  console-call byte h = by (letter byte) refl
-    where
-      told : (l : Letter) → letter byte ≡ some l → (d : ConsoleAlone) → ConsoleAnswers l d → ConsoleCall byte d
-      told l q d (inl r) = inl r
-      told l q d (inr r) = inr (l, (q, r))
-
-      by : (o : Option Letter) → letter byte ≡ o → ConsoleCall byte (consoleDoes c (consoleAsked (foundOf o) (packetRead p .head) (length y)) m y)
-      by none q = inl (early 1 (consoleOk c), refl)
-      by (some l) q = told l q _ (console-letter l (λ s. h (q ∙ ap some s)))
+  unfolding consoleActs
+  console-call byte h =
+      console-by-act Whatever tt tt tt tt c m p y (ConsoleCall byte) (λ n u. inl (n, refl)) (any-head (packetRead p .head)) byte
+      (λ l k e f a g o.
+      let x = console-place l k a f (λ s. h (e ∙ ap some s)) g in
+      inr (l, (e, (x .0, (a, (x .1, refl))))))
 
 -- ## The controller. Its letters use no message, so that the action's may be any
-
-abbrev pub controllerHeardAs : List ℕ → Option (rules.ToController (List ℕ))
-controllerHeardAs p = Option·map (in-packet (λ _. packetRead p .message)) (forController (readForController (packetRead p .head)))
 
 module _ {S : Type 0} (b : Bench S (List ℕ)) (c : Controller) (ok : controllerOk c ≡ true) (m p y : List ℕ) where
   abbrev pub ControllerFinds : Type 0
   ControllerFinds = (q : rules.ToController (List ℕ)) → controllerHeardAs p ≡ some q → (x : ℕ) × (at (b .toController) x ≡ some q)
 
-  abbrev ControllerAnswers : Letter → ControllerAlone → Type 0
-  ControllerAnswers l d =
-      ((n : ℕ) × (d ≡ controllerRefused n c y))
-      ⊎ ((x : ℕ) × ((act : rules.ControllerAct (List ℕ)) × ((asks b l x m ≡ Asked.controller act) × (d ≡ controllerTold (rules.controller-step counted (controllerMeans c) act) y))))
-
-  abbrev comes-of : Request → ControllerAlone
-  comes-of q = controllerDoes c (q .asked) (q .message) y
-
-  controller-refusing : (l : Letter) (n : ℕ) (came : List ℕ) → ControllerAnswers l (controllerDoes c (controller-asked-is.Refused n) came y)
-  controller-refusing l n came = inl (early n (controllerOk c), refl)
-
-  controller-acting : (l : Letter) (x : ℕ) (a : controller-act.Act) (came : List ℕ) → asks b l x m ≡ Asked.controller (in-controller-act (λ _. came) (controller.act a))
-      → ControllerAnswers l (controllerDoes c (controller-asked-is.Is a) came y)
-  unfolding controllerStepped if_then_else_
-  controller-acting l x a came q = inr (x, (in-controller-act (λ _. came) (controller.act a), (q, rw ok)))
-
-  controller-lending : (l : Letter) (q : Request) → ControllerAnswers l (comes-of q) → ControllerAnswers l (comes-of (lent refusing (length y) q))
-  unfolding lent if_then_else_
-  controller-lending l q more = by-test (eqb (length y) 32) (λ t. rw t more) (λ f. rw f (controller-refusing l 12 spaces))
-
-  controller-came : ControllerFinds → (h : Head) → packetRead p .head ≡ read-head.Is h → (f : ForController) → headForController h ≡ f
-      → ControllerAnswers letters.R-take (controllerDoes c (controllerTakes f) (packetRead p .message) y)
+  controller-place : (l : Letter) (k : ControllerAsk) (a : rules.ControllerAct (List ℕ)) → line l .asks ≡ the-controller k → (l ≡ letters.R-take → ControllerFinds) → ControllerActOf p k a → (x : ℕ) × (asks b l x m ≡ Asked.controller a)
   unfolding asks
-  controller-came finds h t for-controller.Nothing q = controller-refusing letters.R-take 15 (packetRead p .message)
-  controller-came finds h t (for-controller.Packet z) q =
-      let came = packetRead p .message in
-      let x = finds (in-packet (λ _. came) (toController z)) (ap (λ (w : ReadHead). Option·map (in-packet (λ _. came)) (forController (readForController w))) t ∙ ap (λ (w : ForController). Option·map (in-packet (λ _. came)) (forController w)) q) in
-      controller-acting letters.R-take (x .0) (controller-act-is.Take (for-controller.Packet z)) came (ap (λ (o : Option (rules.ToController (List ℕ))). Asked.controller (rules.ControllerAct.take o)) (x .1))
-
-  controller-hearing : ControllerFinds → (h : ReadHead) → packetRead p .head ≡ h → ControllerAnswers letters.R-take (controllerDoes c (controllerHeard h) (packetRead p .message) y)
-  controller-hearing finds (read-head.Refused n) t = controller-refusing letters.R-take n (packetRead p .message)
-  controller-hearing finds (read-head.Is h) t = controller-came finds h t (headForController h) refl
-
-  controller-letter : (l : Letter) → (l ≡ letters.R-take → ControllerFinds) → ControllerAnswers l (comes-of (controllerAsked (foundOf (some l)) (packetRead p) (length y)))
-  unfolding lineOf asks
-  controller-letter letters.P-put h = controller-refusing letters.P-put 1 spaces
-  controller-letter letters.Q-need h = controller-refusing letters.Q-need 1 spaces
-  controller-letter letters.D-data h = controller-refusing letters.D-data 1 spaces
-  controller-letter letters.S-take h = controller-refusing letters.S-take 1 spaces
-  controller-letter letters.C-down h = controller-refusing letters.C-down 1 spaces
-  controller-letter letters.V-back h = controller-refusing letters.V-back 1 spaces
-  controller-letter letters.O-offer h = controller-lending letters.O-offer _ (controller-acting letters.O-offer 0 controller-act-is.SendOffer spaces refl)
-  controller-letter letters.K-ok h = controller-lending letters.K-ok _ (controller-acting letters.K-ok 0 controller-act-is.SendOk spaces refl)
-  controller-letter letters.R-take h = controller-lending letters.R-take _ (controller-hearing (h refl) (packetRead p .head) refl)
-  controller-letter letters.X-down h = controller-acting letters.X-down 0 controller-act-is.GoDown spaces refl
-  controller-letter letters.Y-back h = controller-acting letters.Y-back 0 controller-act-is.ComeBack spaces refl
-  controller-letter letters.L-lose h = controller-refusing letters.L-lose 1 spaces
-  controller-letter letters.M-lose h = controller-refusing letters.M-lose 1 spaces
+  controller-place l letters.to-send-offer a f h g = (0, ap (λ (z : Asks). asked-to z b 0 m) f ∙ ap Asked.controller (sym g))
+  controller-place l letters.to-send-ok a f h g = (0, ap (λ (z : Asks). asked-to z b 0 m) f ∙ ap Asked.controller (sym g))
+  controller-place l ControllerAsk.to-take a f h g =
+      let x = h (only-R l (ap takes f)) (g .0) (g .1 .0) in
+      (x .0, ap (λ (z : Asks). asked-to z b (x .0) m) f ∙ ap (λ (o : Option (rules.ToController (List ℕ))). Asked.controller (rules.ControllerAct.take o)) (x .1) ∙ ap Asked.controller (sym (g .1 .1)))
+  controller-place l ControllerAsk.to-go-down a f h g = (0, ap (λ (z : Asks). asked-to z b 0 m) f ∙ ap Asked.controller (sym g))
+  controller-place l ControllerAsk.to-come-back a f h g = (0, ap (λ (z : Asks). asked-to z b 0 m) f ∙ ap Asked.controller (sym g))
 
   abbrev pub ControllerCall : ℕ → ControllerAlone → Type 0
   ControllerCall byte d =
       ((n : ℕ) × (d ≡ controllerRefused n c y))
-      ⊎ ((l : Letter) × ((letter byte ≡ some l) × ((x : ℕ) × ((act : rules.ControllerAct (List ℕ)) × ((asks b l x m ≡ Asked.controller act) × (d ≡ controllerTold (rules.controller-step counted (controllerMeans c) act) y))))))
+      ⊎ ((l : Letter) × ((letter byte ≡ some l) × ((x : ℕ) × ((act : rules.ControllerAct (List ℕ)) × ((asks b l x m ≡ Asked.controller act) × (d ≡ controllerTold (rules.controller-step numbering (controllerMeans c) act) y))))))
 
   pub controller-call : (byte : ℕ) → (letter byte ≡ some letters.R-take → ControllerFinds) → ControllerCall byte (controllerAlone c byte p y)
-  unfolding controllerAlone
-  controller-call byte h = by (letter byte) refl
-    where
-      told : (l : Letter) → letter byte ≡ some l → (d : ControllerAlone) → ControllerAnswers l d → ControllerCall byte d
-      told l q d (inl t) = inl t
-      told l q d (inr t) = inr (l, (q, t))
-
-      by : (o : Option Letter) → letter byte ≡ o → ControllerCall byte (comes-of (controllerAsked (foundOf o) (packetRead p) (length y)))
-      by none q = inl (early 1 (controllerOk c), refl)
-      by (some l) q = told l q _ (controller-letter l (λ s. h (q ∙ ap some s)))
+  unfolding controllerActs
+  controller-call byte h =
+      controller-by-act Whatever tt tt tt tt c p y (ControllerCall byte) (λ n u. inl (n, refl)) (any-head (packetRead p .head)) byte
+      (λ l k e f a g o.
+      let x = controller-place l k a f (λ s. h (e ∙ ap some s)) g in
+      inr (l, (e, (x .0, (a, (x .1, refl))))))

@@ -1,6 +1,6 @@
 -- What a well-formed console sends can be written.
 use Prim.Native.Nat.{ℕ, _≤_, _<_}
-use mathlib.Core.Path.{_≡_, refl, sym, subst}
+use mathlib.Core.Path.{_≡_, refl, sym, ap, _∙_, subst}
 use mathlib.Core.Bool.{Bool, true}
 use mathlib.Core.Option.{Option, none, some, Option·map}
 use mathlib.Core.List.{List}
@@ -9,30 +9,38 @@ use lib.ListN.{length}
 use borrow.Author.Tests.{ne-eqb}
 use Rattle.ground.specs.Choice.{if_then_else_}
 use Rattle.ground.specs.Cell.{isMessage, spaces}
+use Rattle.ground.proofs.Promise.{clash}
 use Rattle.wire.specs.declared.J.{J}
 use Rattle.wire.specs.declared.I.{I}
-use Rattle.wire.specs.Packet.{writeRefusal}
-use Rattle.wire.proofs.Fitting.{needI-fits, data-fits, done-fits}
-use Rattle.protocol.specs.Supply.{counted, next-counted}
+use Rattle.wire.specs.declared.Head.{Head}
+use Rattle.wire.specs.declared.Head.the-variants as head
+use Rattle.wire.specs.Packet.{numbered, writeRefusal}
+use Rattle.wire.proofs.Fitting.{needI-fits, data-fits, done-fits, first-above, second-above}
+use Rattle.protocol.specs.Supply.{numbering}
 use Rattle.protocol.specs.Lists.{Opt}
 use Rattle.protocol.specs.Bears.{Console-bears, ToController-bears, ToConsole-bears}
 use Rattle.protocol.specs.Ends as rules
-use Rattle.protocol.specs.Relabel.{in-console-act}
+use Rattle.protocol.specs.Relabel.{in-packet, in-console, in-console-act}
 use Rattle.protocol.proofs.Lists.{if-holds}
-use Rattle.ends.specs.Means.{toConsole}
-use Rattle.ends.specs.Console.{act}
-use Rattle.ends.specs.Fields.{consoleOk, consoleMode, consoleEnd, consoleWith}
-use Rattle.ends.proofs.ConsoleFields.{by-mode}
+use Rattle.protocol.proofs.Relabel.{nat-console-acts}
+use Rattle.ends.specs.Means.{Beside, toConsole, forConsole, forController, forControllerBack}
+use Rattle.ends.specs.Console.{mode, end, acted}
+use Rattle.ends.specs.Fields.{consoleOk, consoleRead, consoleMode, consoleWith}
+use Rattle.ends.specs.InRules.{consoleMeans}
+use Rattle.ends.specs.Packets.{toControllerPacket, toControllerSent, headForConsole}
+use Rattle.ends.proofs.ConsoleFields.{by-mode, was-read}
+use Rattle.ends.proofs.ConsoleRefusals.{same-for-controller}
+use Rattle.ends.specs.declared.ToConsole.{ToConsole}
+use Rattle.ends.specs.declared.ToConsole.the-variants as down
+use Rattle.ends.specs.declared.ForConsole.{ForConsole}
 use Rattle.ends.specs.declared.ForConsole.the-variants as for-console
+use Rattle.ends.specs.declared.ForController.{ForController}
+use Rattle.ends.specs.declared.console.Acted.{Acted}
+use Rattle.ends.specs.declared.console.End.{End}
 use Rattle.ends.specs.declared.console.Mode.the-variants.{Idle, NeedI, Send}
-use Rattle.ends.specs.declared.console.Act.{Act}
-use Rattle.ends.specs.declared.console.Act.the-variants.{Put, SendNeedI, SendData, Take, GoDown, ComeBack}
 use Rattle.ends.specs.declared.fields.Console.{Console}
+use Rattle.ends.specs.declared.fields.ConsoleRead.the-variants.{Is}
 use Rattle.alone.specs.Alone.{Writable, Above}
-use Rattle.ends.specs.InRules.{consoleMeans, consoleActed}
-use Rattle.alone.specs.ConsoleWithin.{Ready}
-use Rattle.ends.specs.Packets.{toControllerPacket}
-use Rattle.ends.proofs.ConsoleBeside.{refusalOf, acts-kept}
 use Rattle.alone.proofs.Told.{fitting}
 
 -- ## What a well-formed console's mode bears
@@ -90,11 +98,6 @@ reply-ok rules.ConsoleMode.idle (rules.lost i) h = tt
 reply-ok (rules.in-needI j m) (rules.lost i) h = tt
 reply-ok (rules.in-send l m) (rules.lost i) h = if-holds Turned _ _ _ (λ e. tt) (λ e. tt)
 
-put-silent : (next : Option ℕ) (k : rules.ConsoleMode (List ℕ)) (m : List ℕ) → rules.puts next k m .sent ≡ none
-unfolding rules.puts
-put-silent none k m = refl
-put-silent (some j) k m = refl
-
 -- ## What the rules send fits
 
 packet-fits : (p : rules.ToController (List ℕ)) → ToController-bears Above Above (λ m. isMessage m ≡ true) p → writeRefusal 32 (toControllerPacket p) ≡ 0
@@ -106,21 +109,51 @@ sent-fits : (o : Option (rules.ToController (List ℕ))) (n : ℕ) → n ≡ 32 
 sent-fits none n e h = tt
 sent-fits (some p) n e h = rw e (packet-fits p h)
 
-silent : (o : Option (rules.ToController (List ℕ))) (n : ℕ) → o ≡ none → Writable (Option·map toControllerPacket o) n
-silent o n q = subst (λ (x : Option (rules.ToController (List ℕ))). Writable (Option·map toControllerPacket x) n) (sym q) tt
+-- ## What a console that was read sends, with the message that it holds
 
--- of any console of the rules whose mode bears what it should
-acts-fit : (e : rules.Console ℕ (List ℕ)) (a : Act) (m : List ℕ) (n : ℕ) → Bears (e .mode) → Ready a n → Writable (Option·map toControllerPacket (rules.console-acts counted e (in-console-act (λ _. m) (act a)) .sent)) n
-unfolding rules.console-acts rules.console-turn
-acts-fit e Put m n h r = silent _ n (put-silent (next-counted (e .numbers)) (e .mode) m)
-acts-fit e SendNeedI m n h r = sent-fits (rules.needI-sent (e .mode)) n r (needI-ok (e .mode) h)
-acts-fit e SendData m n h r = sent-fits (rules.data-sent (e .mode)) n r (data-ok (e .mode) h)
-acts-fit e (Take for-console.Nothing) m n h r = tt
-acts-fit e (Take (for-console.Packet p)) m n h r = sent-fits (rules.console-takes (e .mode) (toConsole p) .sent) n (r .0) (reply-ok (e .mode) (toConsole p) (r .1))
-acts-fit e GoDown m n h r = tt
-acts-fit e ComeBack m n h r = tt
+other : {A : Type 0} (p : ToConsole) → for-console.Nothing ≡ for-console.Packet p → A
+other p e = absurd (clash cc)
 
-pub can-write : (c : Console) → length (c .message) ≡ 16 → consoleOk c ≡ true → (m : List ℕ) (a : Act) (n : ℕ) → Ready a n → refusalOf (consoleEnd c) a m ≡ 0 → Writable (Option·map toControllerPacket (consoleActed (consoleEnd c) (c .message) a m .sent)) n
-can-write c long ok m a n r z =
-    subst (λ (d : rules.ConsoleActed ℕ (List ℕ)). Writable (Option·map toControllerPacket (d .sent)) n) (acts-kept (consoleEnd c) (c .message) a m z)
-    (acts-fit (consoleMeans c) a m n (meant c long ok) r)
+packet-same : (p q : ToConsole) → for-console.Packet p ≡ for-console.Packet q → ToConsole-bears Above Above (toConsole p) → ToConsole-bears Above Above (toConsole q)
+packet-same p q e h = let same : p ≡ q = cc in subst (λ (x : ToConsole). ToConsole-bears Above Above (toConsole x)) same h
+
+-- a packet in that was read bears numbers
+borne : (h : Head) (p : ToConsole) → numbered h ≡ true → headForConsole h ≡ for-console.Packet p → ToConsole-bears Above Above (toConsole p)
+borne (head.NeedI j) p g q = other p q
+borne (head.Offer j i) p g q = packet-same (down.Offer j i) p q (first-above (head.Offer j i) g, second-above j i g)
+borne (head.Data i) p g q = other p q
+borne (head.Ok i) p g q = packet-same (down.Ok i) p q (first-above (head.Ok i) g)
+borne (head.Lost i) p g q = packet-same (down.Lost i) p q (first-above (head.Lost i) g)
+borne (head.Done i) p g q = other p q
+
+module _ (c : Console) (e : End) (read : consoleRead c ≡ Is e) (long : length (c .message) ≡ 16) where
+  bears : Bears (consoleMeans c .mode)
+  bears = meant c long (was-read c read .0)
+
+  -- as the rules' console sends it
+  as-sent : {s : ForController} (a : rules.ConsoleAct Beside) (n : ℕ) → s ≡ forControllerBack (rules.console-acts numbering (end e) a .sent) → n ≡ 32
+      → Sent (rules.console-acts numbering (consoleMeans c) (in-console-act (λ _. c .message) a) .sent) → Writable (toControllerSent s (c .message)) n
+  unfolding toControllerSent
+  as-sent a n f l h =
+      let k = c .message in
+      let o = rules.console-acts numbering (end e) a .sent in
+      let there : Option·map (in-packet (λ _. k)) o ≡ rules.console-acts numbering (consoleMeans c) (in-console-act (λ _. k) a) .sent =
+      ap (λ (d : rules.ConsoleActed ℕ (List ℕ)). d .sent) (sym (nat-console-acts (λ _. k) numbering (end e) a))
+      ∙ ap (λ (x : End). rules.console-acts numbering (in-console (λ _. k) (end x)) (in-console-act (λ _. k) a) .sent) (was-read c read .1) in
+      let same = ap (λ (x : ForController). Option·map (in-packet (λ _. k)) (forController x)) f ∙ ap (Option·map (in-packet (λ _. k))) (same-for-controller o) ∙ there in
+      subst (λ (x : Option (rules.ToController (List ℕ))). Writable (Option·map toControllerPacket x) n) (sym same) (sent-fits (rules.console-acts numbering (consoleMeans c) (in-console-act (λ _. k) a) .sent) n l h)
+
+  pub needI-writable : {s : ForController} → s ≡ forControllerBack (rules.needI-sent (mode (e .mode))) → Writable (toControllerSent s (c .message)) 32
+  unfolding rules.console-acts rules.console-turn
+  needI-writable f = as-sent rules.send-needI 32 f refl (needI-ok (consoleMeans c .mode) bears)
+
+  pub data-writable : {s : ForController} → s ≡ forControllerBack (rules.data-sent (mode (e .mode))) → Writable (toControllerSent s (c .message)) 32
+  unfolding rules.console-acts rules.console-turn
+  data-writable f = as-sent rules.send-data 32 f refl (data-ok (consoleMeans c .mode) bears)
+
+  pub reply-writable : {d : Acted} {came : ForConsole} {p : ToConsole} (h : Head) (n : ℕ) → numbered h ≡ true → n ≡ 32 → came ≡ headForConsole h → came ≡ for-console.Packet p
+      → d ≡ acted (rules.console-acts numbering (end e) (rules.ConsoleAct.take (forConsole (for-console.Packet p)))) → Writable (toControllerSent (d .sent) (c .message)) n
+  unfolding rules.console-acts rules.console-turn
+  reply-writable {p = p} h n g l f q w =
+      as-sent (rules.ConsoleAct.take (some (toConsole p))) n (ap (λ (x : Acted). x .sent) w) l
+      (reply-ok (consoleMeans c .mode) (toConsole p) (borne h p g (sym f ∙ q)))

@@ -1,116 +1,279 @@
--- A controller run alone: the ways through its step.
+-- A controller run alone: the ways through its functions.
 use Prim.Native.Nat.{ℕ}
-use mathlib.Core.Path.{_≡_, sym, ap, _∙_, subst}
-use mathlib.Core.Bool.{Bool, true, false}
-use mathlib.Core.Option.{Option·map}
-use mathlib.Core.List.{List}
-use lib.ListN.{length}
-use Rattle.ground.specs.Choice.{if_then_else_}
+use mathlib.Core.Path.{_≡_, refl, sym, ap, _∙_}
+use mathlib.Core.Bool.{Bool, true, false, not}
+use mathlib.Core.Option.{Option, none, some, Option·map}
+use mathlib.Core.List.{List, [], _∷_}
+use native.Mathlib.Omega.{arith}
+use lib.ListN.{length, drop}
+use lib.Dec.{eqb}
+use borrow.Author.Tests.{eq-eqb, ne-eqb, eqb-true, eqb-false}
 use Rattle.ground.specs.Cell.{spaces}
-use Rattle.ground.specs.First.{refusal}
-use Rattle.wire.specs.Packet.{packetRead}
-use Rattle.protocol.specs.Supply.{counted}
-use Rattle.protocol.specs.Letters.{letter}
+use Rattle.ground.specs.Choice.{if_then_else_}
+use Rattle.ground.specs.First.{first, refusal}
+use Rattle.ground.proofs.Tests.{by-test}
+use Rattle.wire.specs.Packet.{numbered, packetRead}
+use Rattle.wire.specs.declared.Head.{Head}
+use Rattle.wire.specs.declared.ReadHead.{ReadHead}
+use Rattle.wire.specs.declared.ReadHead.the-variants as read-head
+use Rattle.wire.specs.declared.ReadPacket.{ReadPacket}
+use Rattle.wire.proofs.Outcomes.{packet-read, head-unrefused, read-numbered}
+use Rattle.protocol.specs.Supply.{numbering}
+use Rattle.protocol.specs.Letters.{Letter, line, letter, Asks, the-console, the-controller, neither-end}
 use Rattle.protocol.specs.Ends as rules
-use Rattle.letters.specs.Lines.{foundOf}
-use Rattle.ends.specs.Controller.{end, act}
-use Rattle.ends.specs.Fields.{controllerWasRead, controllerOk, controllerRead, controllerEnd}
+use Rattle.protocol.specs.Relabel.{in-controller-act}
+use Rattle.protocol.proofs.Relabel.{nat-controller-acts}
+use Rattle.letters.specs.Lines.{foundOf, controllerAskMeans, asksMeans}
+use Rattle.letters.proofs.Asking.{nothing-found, line-found}
+use Rattle.letters.specs.declared.ConsoleAsk.{ConsoleAsk}
+use Rattle.letters.specs.declared.ControllerAsk.{ControllerAsk}
+use Rattle.letters.specs.declared.ControllerAsk.the-variants as asks
+use Rattle.letters.specs.declared.Asks as code
+use Rattle.letters.specs.declared.Asks.the-variants as asked
+use Rattle.letters.specs.declared.Line.{Line}
+use Rattle.letters.specs.declared.Found.{Found}
+use Rattle.letters.specs.declared.Found.the-variants as found
+use Rattle.ends.specs.Means.{toController, forController, forConsole, forConsoleBack}
+use Rattle.ends.specs.Controller.{mode, end, act, acted}
+use Rattle.ends.specs.Fields.{controllerWasRead, controllerOk, controllerRead, controllerEnd, controllerFields}
+use Rattle.ends.specs.InRules.{controllerBack, controllerActed, deliveredBeside}
+use Rattle.ends.specs.Packets.{toConsolePacket, toConsoleSent, headForController}
+use Rattle.ends.proofs.ControllerBeside.{refusalOf, step-done, step-refused}
 use Rattle.ends.proofs.ControllerFields.{was-read, was-read-so}
+use Rattle.ends.proofs.ControllerRefusals.{same-for-console, refuses-offer, refuses-ok, down-0, back-5, back-0}
 use Rattle.ends.proofs.Telling.{controller-unchanged}
+use Rattle.ends.specs.declared.ToController.{ToController}
+use Rattle.ends.specs.declared.ForController.{ForController}
+use Rattle.ends.specs.declared.ForController.the-variants as for-controller
+use Rattle.ends.specs.declared.ForConsole.{ForConsole}
+use Rattle.ends.specs.declared.controller.Acted.{Acted}
 use Rattle.ends.specs.declared.controller.End.{End}
 use Rattle.ends.specs.declared.controller.Act.{Act}
+use Rattle.ends.specs.declared.controller.Act.the-variants.{SendOffer, SendOk, Take, GoDown, ComeBack}
 use Rattle.ends.specs.declared.Report.{Report}
 use Rattle.ends.specs.declared.Report.the-variants as report
 use Rattle.ends.specs.declared.fields.Controller.{Controller}
 use Rattle.ends.specs.declared.fields.ControllerRead.{ControllerRead}
 use Rattle.ends.specs.declared.fields.ControllerRead.the-variants.{IllFormed, Is}
-use Rattle.alone.specs.declared.controller.Asked.{Asked}
-use Rattle.alone.specs.declared.controller.Asked.the-variants as asked-is
-use Rattle.alone.specs.declared.controller.Request.{Request}
 use Rattle.alone.specs.declared.controller.ControllerOutcome.{ControllerOutcome}
-use Rattle.alone.specs.Alone.{Writable, early}
-use Rattle.alone.specs.ControllerAlone.{ControllerAlone, controllerStepped, controllerTold}
-use Rattle.alone.specs.ControllerWithin.{Ready}
-use Rattle.ends.specs.InRules.{controllerActed}
-use Rattle.ends.specs.Packets.{toConsolePacket}
-use Rattle.alone.specs.ControllerAlone.{controllerAsked, controllerDoes, controllerAlone}
-use Rattle.ends.proofs.ControllerBeside.{refusalOf, step-done, step-refused}
-use Rattle.alone.proofs.ControllerReady.{can-write}
+use Rattle.alone.specs.Alone.{replied}
+use Rattle.alone.specs.ControllerAlone.{ControllerAlone, controllerRefused, controllerTold, controllerActs, controllerTakes, controllerHead, controllerHears, controllerLent, controllerAsked, controllerAsks, controllerLetter, controllerAlone}
+use Rattle.alone.specs.ControllerWithin.{controllerTells, controllerSends}
+use Rattle.alone.proofs.ControllerTold.{told, done-told}
 
-module _ {n : ℕ} (c : Controller) (e : End) (a : Act) (m : List ℕ) (read : controllerRead c ≡ Is e) (refuses : n ≡ refusal (rules.controller-rules counted (end e) (act a))) where
+-- what is told of a refusal
+abbrev refusing : ℕ → Controller → ControllerOutcome
+refusing n c = record { report = report.Refused n; message = spaces; sent = false; controller = c }
+
+-- ## An act of a controller that was read
+
+module _ {n : ℕ} (c : Controller) (e : End) (read : controllerRead c ≡ Is e) (a : Act) (m : List ℕ) (refuses : n ≡ refusalOf e a) where
   number-is : n ≡ refusalOf (controllerEnd c) a
   number-is = refuses ∙ ap (λ (x : End). refusalOf x a) (was-read c read .1)
 
-  pub does-refused : {x : ControllerOutcome} (reply : List ℕ) → (n ≡ 0 → ⊥) → x ≡ record { report = report.Refused n; message = spaces; sent = false; controller = c }
-      → record { outcome = x; reply = reply } ≡ controllerTold (controllerStepped c a m) reply
-  unfolding rules.absent controllerStepped
-  does-refused reply z h =
+  act-refused : {x : ControllerOutcome} (reply : List ℕ) → (n ≡ 0 → ⊥) → x ≡ refusing n c → record { outcome = x; reply = reply } ≡ controllerActs c reply (in-controller-act (λ _. m) (act a))
+  unfolding rules.absent controllerActs
+  act-refused reply z h =
       let same = sym (controller-unchanged c (was-read c read .0)) in
       (λ i. record { outcome = h i; reply = reply })
       ∙ (λ i. record { outcome = record { report = report.Refused (number-is i); message = spaces; sent = false; controller = same i }; reply = reply })
       ∙ ap (λ (d : rules.ControllerActed ℕ (List ℕ)). controllerTold d reply) (sym (step-refused (controllerEnd c) a m (λ q. z (number-is ∙ q))))
 
-  pub does-done : {x : ControllerAlone} (reply : List ℕ) → n ≡ 0 → x ≡ controllerTold (controllerActed e a m) reply
-      → x ≡ controllerTold (controllerStepped c a m) reply
-  unfolding controllerStepped
-  does-done reply z h =
+  act-done : {x : ControllerAlone} (reply : List ℕ) → n ≡ 0 → x ≡ controllerTold (controllerActed e a m) reply → x ≡ controllerActs c reply (in-controller-act (λ _. m) (act a))
+  unfolding controllerActs
+  act-done reply z h =
       h ∙ ap (λ (x : End). controllerTold (controllerActed x a m) reply) (was-read c read .1)
       ∙ ap (λ (d : rules.ControllerActed ℕ (List ℕ)). controllerTold d reply) (sym (step-done (controllerEnd c) a m (sym number-is ∙ z)))
 
-pub does-writable : (c : Controller) (e : End) (a : Act) (m : List ℕ) (k : ℕ) → controllerRead c ≡ Is e → Ready a k → Writable (Option·map toConsolePacket (controllerActed e a m .sent)) k
-does-writable c e a m k read r =
-    subst (λ (x : End). Writable (Option·map toConsolePacket (controllerActed x a m .sent)) k) (sym (was-read c read .1))
-    (can-write c (was-read c read .0) m a k r)
+-- the code's answers, put together
+pub done-so : {v : Controller} (d : Acted) → v ≡ controllerFields (d .after) → _≡_ {A = ControllerOutcome} (record { report = d .report; message = spaces; sent = false; controller = v }) (record { report = d .report; message = spaces; sent = false; controller = controllerFields (d .after) })
+done-so d e = λ i. record { report = d .report; message = spaces; sent = false; controller = e i }
+
+pub delivers-so : {x : List ℕ} {r : Report} (m : List ℕ) → r ≡ report.Delivered → x ≡ m → x ≡ deliveredBeside r m
+delivers-so m f h = rw f h
+
+-- ## X Y, which are not lent the reply buffer
+
+module _ {x : ControllerOutcome} (c : Controller) (e : End) (read : controllerRead c ≡ Is e) where
+  pub down-done : {d : Acted} → d ≡ acted (rules.controller-acts numbering (end e) rules.ControllerAct.go-down) → x ≡ record { report = d .report; message = spaces; sent = false; controller = controllerFields (d .after) }
+      → (reply : List ℕ) → record { outcome = x; reply = reply } ≡ controllerActs c reply rules.ControllerAct.go-down
+  unfolding rules.controller-acts rules.controller-turn rules.end-after
+  down-done f h reply =
+      act-done c e read GoDown spaces (down-0 e refl) reply refl (done-told (rules.controller-acts numbering (end e) rules.ControllerAct.go-down) spaces reply refl refl f h)
+
+  pub back-refused : e .up ≡ true → x ≡ refusing 5 c → (reply : List ℕ) → record { outcome = x; reply = reply } ≡ controllerActs c reply rules.ControllerAct.come-back
+  back-refused u h reply = act-refused c e read ComeBack spaces (back-5 e refl u) reply (λ z. omega (arith, z)) h
+
+  pub back-done : {d : Acted} → e .up ≡ false → d ≡ acted (rules.controller-acts numbering (end e) rules.ControllerAct.come-back) → x ≡ record { report = d .report; message = spaces; sent = false; controller = controllerFields (d .after) }
+      → (reply : List ℕ) → record { outcome = x; reply = reply } ≡ controllerActs c reply rules.ControllerAct.come-back
+  unfolding rules.controller-acts rules.controller-turn rules.end-after
+  back-done u f h reply =
+      act-done c e read ComeBack spaces (back-0 e refl u) reply refl (done-told (rules.controller-acts numbering (end e) rules.ControllerAct.come-back) spaces reply refl refl f h)
+
+-- ## O and K
+
+module _ (c : Controller) (reply : List ℕ) where
+  -- the reply buffer has another length
+  pub lent-12 : {x : ControllerOutcome} (y : ControllerAlone) → (length reply ≡ 32 → ⊥) → x ≡ refusing 12 c → record { outcome = x; reply = reply } ≡ controllerLent c reply y
+  unfolding controllerLent if_then_else_
+  lent-12 y l h = (λ i. record { outcome = h i; reply = reply }) ∙ rw (ne-eqb (length reply) 32 l)
+
+  lent-so : {x : ControllerAlone} (y : ControllerAlone) → length reply ≡ 32 → x ≡ y → x ≡ controllerLent c reply y
+  unfolding controllerLent if_then_else_
+  lent-so y l h = rw (eq-eqb (length reply) 32 l) h
+
+  module _ {n : ℕ} (s : ForConsole) (up : Bool) (l : length reply ≡ 32) (refuses : n ≡ first (rules.down-4 up ∷ rules.mode-6 (forConsole s) ∷ [])) where
+    pub sends-refused : {x : ControllerOutcome} → (n ≡ 0 → ⊥) → x ≡ refusing n c → record { outcome = x; reply = reply } ≡ controllerLent c reply (controllerSends c up s reply)
+    unfolding controllerSends if_then_else_
+    sends-refused z h = lent-so _ l ((λ i. record { outcome = h i; reply = reply }) ∙ rw (← refuses, ne-eqb n 0 z))
+
+    pub sends-done : {b : Bool} {r : List ℕ} → n ≡ 0 → b ≡ not (rules.absent (forConsole s)) → r ≡ replied (toConsoleSent s) reply
+        → record { outcome = record { report = report.Nothing; message = spaces; sent = b; controller = c }; reply = r } ≡ controllerLent c reply (controllerSends c up s reply)
+    unfolding controllerSends if_then_else_
+    sends-done z f g =
+        lent-so _ l ((λ i. record { outcome = record { report = report.Nothing; message = spaces; sent = f i; controller = c }; reply = g i }) ∙ rw (← refuses, z))
+
+-- an act that changes nothing, and sends o
+abbrev stays : End → Option rules.ToConsole → rules.ControllerActed ℕ (List ℕ)
+stays e o = record { report = rules.nothing; sent = o; after = end e }
+
+-- what they would send is what the rules' controller would
+module _ {s : ForConsole} (c : Controller) (e : End) (reply : List ℕ) (read : controllerRead c ≡ Is e) where
+  stays-told : (o : Option rules.ToConsole) → s ≡ forConsoleBack o
+      → record { outcome = record { report = report.Nothing; message = spaces; sent = not (rules.absent (forConsole s)); controller = c }; reply = replied (toConsoleSent s) reply } ≡ controllerTold (stays e o) reply
+  unfolding toConsoleSent
+  stays-told o f =
+      let sent = ap forConsole f ∙ same-for-console o in
+      let same = sym (ap (λ (x : End). controllerBack (end x)) (was-read c read .1) ∙ controller-unchanged c (was-read c read .0)) in
+      λ i. record { outcome = record { report = report.Nothing; message = spaces; sent = not (rules.absent (sent i)); controller = same i }; reply = replied (Option·map toConsolePacket (sent i)) reply }
+
+  sends-so : (a : Act) (o : Option rules.ToConsole) → s ≡ forConsoleBack o → first (rules.down-4 (e .up) ∷ rules.mode-6 (forConsole s) ∷ []) ≡ refusalOf e a → controllerActed e a spaces ≡ stays e o
+      → controllerSends c (e .up) s reply ≡ controllerActs c reply (in-controller-act (λ _. spaces) (act a))
+  unfolding controllerSends if_then_else_
+  sends-so a o f r w =
+      let n = first (rules.down-4 (e .up) ∷ rules.mode-6 (forConsole s) ∷ []) in
+      by-test (eqb n 0)
+      (λ t. rw t (act-done c e read a spaces r reply (eqb-true n 0 t) (stays-told o f ∙ ap (λ (d : rules.ControllerActed ℕ (List ℕ)). controllerTold d reply) (sym w))))
+      (λ t. rw t (act-refused c e read a spaces r reply (eqb-false n 0 t) refl))
+
+  pub asked-offer : {x : ControllerAlone} → s ≡ forConsoleBack (rules.offer-sent (mode (e .mode))) → x ≡ controllerLent c reply (controllerSends c (e .up) s reply) → x ≡ controllerLent c reply (controllerActs c reply rules.send-offer)
+  unfolding rules.controller-acts rules.controller-turn rules.end-after rules.numbers-after rules.up-after
+  asked-offer f h =
+      h ∙ ap (controllerLent c reply) (sends-so SendOffer (rules.offer-sent (mode (e .mode))) f (refuses-offer e refl f refl) refl)
+
+  pub asked-ok : {x : ControllerAlone} → s ≡ forConsoleBack (rules.ok-sent (mode (e .mode))) → x ≡ controllerLent c reply (controllerSends c (e .up) s reply) → x ≡ controllerLent c reply (controllerActs c reply rules.send-ok)
+  unfolding rules.controller-acts rules.controller-turn rules.end-after rules.numbers-after rules.up-after
+  asked-ok f h =
+      h ∙ ap (controllerLent c reply) (sends-so SendOk (rules.ok-sent (mode (e .mode))) f (refuses-ok e refl f refl) refl)
+
+-- ## R
+
+module _ {came : ForController} (c : Controller) (e : End) (h : Head) (m reply : List ℕ) (read : controllerRead c ≡ Is e) (f : came ≡ headForController h) where
+  pub hears-15 : {x : ControllerOutcome} → came ≡ for-controller.Nothing → x ≡ refusing 15 c → record { outcome = x; reply = reply } ≡ controllerTakes c reply m (headForController h)
+  hears-15 g w = (λ i. record { outcome = w i; reply = reply }) ∙ ap (controllerTakes c reply m) (sym g ∙ f)
+
+  module _ {n : ℕ} {p : ToController} (g : came ≡ for-controller.Packet p) (refuses : n ≡ refusal (rules.controller-rules numbering (end e) (rules.ControllerAct.take (forController (for-controller.Packet p))))) where
+    pub hears-refused : {x : ControllerOutcome} → (n ≡ 0 → ⊥) → x ≡ refusing n c → record { outcome = x; reply = reply } ≡ controllerTakes c reply m (headForController h)
+    hears-refused z w =
+        act-refused c e read (Take (for-controller.Packet p)) m refuses reply z w ∙ ap (controllerTakes c reply m) (sym g ∙ f)
+
+    pub hears-done : {x : ControllerAlone} {d : Acted} → n ≡ 0 → d ≡ acted (rules.controller-acts numbering (end e) (rules.ControllerAct.take (forController (for-controller.Packet p)))) → x ≡ controllerTells d m reply
+        → x ≡ controllerTakes c reply m (headForController h)
+    hears-done z q w =
+        let a = rules.ControllerAct.take (some (toController p)) in
+        act-done c e read (Take (for-controller.Packet p)) m refuses reply z
+        (w ∙ ap (λ (d : Acted). controllerTells d m reply) q ∙ told (rules.controller-acts numbering (end e) a) m reply
+        ∙ ap (λ (d : rules.ControllerActed ℕ (List ℕ)). controllerTold d reply) (sym (nat-controller-acts (λ _. m) numbering (end e) a)))
+        ∙ ap (controllerTakes c reply m) (sym g ∙ f)
+
+module _ {r : ReadHead} (c : Controller) (packet reply : List ℕ) (l : length reply ≡ 32) (e : r ≡ packetRead packet .head) where
+  pub takes-refused : {x : ControllerOutcome} {n : ℕ} → r ≡ read-head.Refused n → x ≡ refusing n c → record { outcome = x; reply = reply } ≡ controllerLent c reply (controllerHears c reply (packetRead packet))
+  takes-refused g h =
+      lent-so c reply _ l ((λ i. record { outcome = h i; reply = reply }) ∙ ap (controllerHead c reply (packetRead packet .message)) (sym g ∙ e))
+
+  pub takes-heard : {x : ControllerAlone} {h : Head} → r ≡ read-head.Is h → x ≡ controllerTakes c reply (drop 16 packet) (headForController h) → x ≡ controllerLent c reply (controllerHears c reply (packetRead packet))
+  takes-heard {h = h} g w =
+      let m = ap (λ (p : ReadPacket). p .message) (packet-read packet (head-unrefused packet (sym e ∙ g))) in
+      lent-so c reply _ l (w ∙ ap (λ (y : List ℕ). controllerTakes c reply y (headForController h)) (sym m) ∙ ap (controllerHead c reply (packetRead packet .message)) (sym g ∙ e))
+
+-- the head of a packet that was read bears its numbers
+pub read-good : {r : ReadHead} {h : Head} (packet : List ℕ) → r ≡ packetRead packet .head → r ≡ read-head.Is h → numbered h ≡ true
+read-good packet e g = read-numbered packet (sym e ∙ g)
+
+-- ## What is asked
+
+module _ (ask : ControllerAsk) (c : Controller) (e : End) (packet reply : List ℕ) where
+  abbrev Asked : ControllerAlone → Type 0
+  Asked x = x ≡ controllerAsked c reply packet (controllerAskMeans ask)
+
+  module _ {x : ControllerAlone} where
+    pub does-offer : {s : ForConsole} → controllerRead c ≡ Is e → ask ≡ asks.SendOffer → s ≡ forConsoleBack (rules.offer-sent (mode (e .mode))) → x ≡ controllerLent c reply (controllerSends c (e .up) s reply) → Asked x
+    does-offer read f g h = rw f (asked-offer c e reply read g h)
+
+    pub does-ok : {s : ForConsole} → controllerRead c ≡ Is e → ask ≡ asks.SendOk → s ≡ forConsoleBack (rules.ok-sent (mode (e .mode))) → x ≡ controllerLent c reply (controllerSends c (e .up) s reply) → Asked x
+    does-ok read f g h = rw f (asked-ok c e reply read g h)
+
+    pub does-take : ask ≡ asks.Take → x ≡ controllerLent c reply (controllerHears c reply (packetRead packet)) → Asked x
+    does-take f h = rw f h
+
+  module _ {x : ControllerOutcome} where
+    pub does-down : ask ≡ asks.GoDown → ((y : List ℕ) → record { outcome = x; reply = y } ≡ controllerActs c y rules.ControllerAct.go-down) → Asked (record { outcome = x; reply = reply })
+    does-down f h = rw f (h reply)
+
+    pub does-back : ask ≡ asks.ComeBack → ((y : List ℕ) → record { outcome = x; reply = y } ≡ controllerActs c y rules.ControllerAct.come-back) → Asked (record { outcome = x; reply = reply })
+    does-back f h = rw f (h reply)
 
 -- ## The entry
 
-module _ {request : Request} {read : ControllerRead} (c : Controller) (l : ℕ) (packet reply : List ℕ) (asks : request ≡ controllerAsked (foundOf (letter l)) (packetRead packet) (length reply)) (reads : read ≡ controllerRead c) where
-  -- what is asked decides
-  decides : {a : Asked} → request .asked ≡ a → controllerDoes c a (request .message) reply ≡ controllerAlone c l packet reply
+module _ {f : Found} (c : Controller) (b : ℕ) (packet reply : List ℕ) (finds : f ≡ foundOf (letter b)) where
+  pub alone-none : {x : ControllerOutcome} → f ≡ found.Nothing → x ≡ refusing 1 c → record { outcome = x; reply = reply } ≡ controllerAlone c b packet reply
   unfolding controllerAlone
-  decides f =
-      (λ i. controllerDoes c (sym f i) (request .message) reply)
-      ∙ ap (λ (r : Request). controllerDoes c (r .asked) (r .message) reply) asks
+  alone-none g h = (λ i. record { outcome = h i; reply = reply }) ∙ ap (controllerLetter c reply packet) (sym (nothing-found (letter b) finds g))
 
-  refused-as : {n k : ℕ} {b : Bool} {x : ControllerOutcome} → request .asked ≡ asked-is.Refused n → b ≡ controllerWasRead read → k ≡ early n b → x ≡ record { report = report.Refused k; message = spaces; sent = false; controller = c }
-      → record { outcome = x; reply = reply } ≡ controllerAlone c l packet reply
-  refused-as {n} f b g h =
-      let ks = g ∙ ap (early n) (b ∙ ap controllerWasRead reads ∙ was-read-so c) in
-      (λ i. record { outcome = h i; reply = reply })
-      ∙ (λ i. record { outcome = record { report = report.Refused (ks i); message = spaces; sent = false; controller = c }; reply = reply })
-      ∙ decides f
+  module _ {l : Line} {k : code.Asks} (g : f ≡ found.Line l) (asked-so : l .asks ≡ k) where
+    by-asks : controllerAsks c reply packet (asksMeans k) ≡ controllerAlone c b packet reply
+    unfolding controllerAlone
+    by-asks =
+        let o = line-found (letter b) finds g in
+        ap (λ (x : code.Asks). controllerAsks c reply packet (asksMeans x)) (sym asked-so)
+        ∙ ap (controllerAsks c reply packet) (sym (o .2))
+        ∙ ap (controllerLetter c reply packet) (sym (o .1))
 
-  module _ {n k : ℕ} {x : ControllerOutcome} (f : request .asked ≡ asked-is.Refused n) (h : x ≡ record { report = report.Refused k; message = spaces; sent = false; controller = c }) where
-    pub refused-ill : read ≡ IllFormed → k ≡ early n false → record { outcome = x; reply = reply } ≡ controllerAlone c l packet reply
-    refused-ill i g = refused-as f (ap controllerWasRead (sym i)) g h
+  module _ {x : ControllerOutcome} {l : Line} (g : f ≡ found.Line l) where
+    pub alone-console : {a : ConsoleAsk} → l .asks ≡ asked.Console a → x ≡ refusing 1 c → record { outcome = x; reply = reply } ≡ controllerAlone c b packet reply
+    alone-console s h = (λ i. record { outcome = h i; reply = reply }) ∙ by-asks g s
 
-    pub refused-well : {e : End} → read ≡ Is e → k ≡ early n true → record { outcome = x; reply = reply } ≡ controllerAlone c l packet reply
-    refused-well i g = refused-as f (ap controllerWasRead (sym i)) g h
+    pub alone-neither : l .asks ≡ asked.NoEnd → x ≡ refusing 1 c → record { outcome = x; reply = reply } ≡ controllerAlone c b packet reply
+    alone-neither s h = (λ i. record { outcome = h i; reply = reply }) ∙ by-asks g s
 
-  pub alone-ill : {a : Act} {x : ControllerOutcome} → request .asked ≡ asked-is.Is a → read ≡ IllFormed → x ≡ record { report = report.Refused 2; message = spaces; sent = false; controller = c }
-      → record { outcome = x; reply = reply } ≡ controllerAlone c l packet reply
-  unfolding if_then_else_
-  alone-ill {a} f g h =
-      let no : controllerOk c ≡ false = sym (was-read-so c) ∙ ap controllerWasRead (sym reads ∙ g) in
-      let ill : record { outcome = record { report = report.Refused 2; message = spaces; sent = false; controller = c }; reply = reply } ≡ controllerDoes c (asked-is.Is a) (request .message) reply = rw no in
-      (λ i. record { outcome = h i; reply = reply }) ∙ ill ∙ decides f
+  module _ {l : Line} {a : ControllerAsk} {r : ControllerRead} (g : f ≡ found.Line l) (s : l .asks ≡ asked.Controller a) (reads : r ≡ controllerRead c) where
+    pub alone-ill : {x : ControllerOutcome} → r ≡ IllFormed → x ≡ refusing 2 c → record { outcome = x; reply = reply } ≡ controllerAlone c b packet reply
+    unfolding if_then_else_
+    alone-ill i h =
+        let no : controllerOk c ≡ false = sym (was-read-so c) ∙ ap controllerWasRead (sym reads ∙ i) in
+        let two : controllerRefused 2 c reply ≡ controllerAsks c reply packet (asksMeans (asked.Controller a)) = rw no in
+        (λ i. record { outcome = h i; reply = reply }) ∙ two ∙ by-asks g s
 
-  pub alone-does : {a : Act} {e : End} {x : ControllerAlone} → request .asked ≡ asked-is.Is a → read ≡ Is e → x ≡ controllerTold (controllerStepped c a (request .message)) reply → x ≡ controllerAlone c l packet reply
-  unfolding if_then_else_
-  alone-does {a} f g h =
-      let yes : controllerOk c ≡ true = sym (was-read-so c) ∙ ap controllerWasRead (sym reads ∙ g) in
-      let does : controllerTold (controllerStepped c a (request .message)) reply ≡ controllerDoes c (asked-is.Is a) (request .message) reply = rw yes in
-      h ∙ does ∙ decides f
+    pub alone-asked : {x : ControllerAlone} {e : End} → r ≡ Is e → x ≡ controllerAsked c reply packet (controllerAskMeans a) → x ≡ controllerAlone c b packet reply
+    unfolding if_then_else_
+    alone-asked i h =
+        let yes : controllerOk c ≡ true = sym (was-read-so c) ∙ ap controllerWasRead (sym reads ∙ i) in
+        let does : controllerAsked c reply packet (controllerAskMeans a) ≡ controllerAsks c reply packet (asksMeans (asked.Controller a)) = rw yes in
+        h ∙ does ∙ by-asks g s
 
-pub read-as : {read : ControllerRead} {e : End} (c : Controller) → read ≡ controllerRead c → read ≡ Is e → controllerRead c ≡ Is e
+pub read-as : {r : ControllerRead} {e : End} (c : Controller) → r ≡ controllerRead c → r ≡ Is e → controllerRead c ≡ Is e
 read-as c f g = sym f ∙ g
 
 -- whatever is asked of a controller that is not well formed is refused
 pub ill-refused : (P : Report → Type 0) → ((n : ℕ) → P (report.Refused n)) → (c : Controller) → controllerOk c ≡ false → (l : ℕ) (packet reply : List ℕ) → P (controllerAlone c l packet reply .outcome .report)
 unfolding controllerAlone if_then_else_
-ill-refused P refuses c f l packet reply =
-    let r = controllerAsked (foundOf (letter l)) (packetRead packet) (length reply) in by-asked (r .asked) (r .message)
+ill-refused P refuses c f l packet reply = by-letter (letter l)
   where
-    by-asked : (a : Asked) (m : List ℕ) → P (controllerDoes c a m reply .outcome .report)
-    by-asked (asked-is.Refused n) m = refuses _
-    by-asked (asked-is.Is a) m = rw f (refuses 2)
+    by-asks : (a : Asks) → P (controllerAsks c reply packet a .outcome .report)
+    by-asks (the-console a) = refuses 1
+    by-asks (the-controller a) = rw f (refuses 2)
+    by-asks neither-end = refuses 1
+
+    by-letter : (o : Option Letter) → P (controllerLetter c reply packet o .outcome .report)
+    by-letter none = refuses 1
+    by-letter (some k) = by-asks (line k .asks)

@@ -1,37 +1,41 @@
 -- What a well-formed controller sends can be written.
 use Prim.Native.Nat.{ℕ, _<_}
-use mathlib.Core.Path.{_≡_}
+use mathlib.Core.Path.{_≡_, refl, sym, ap, _∙_, subst}
 use mathlib.Core.Bool.{Bool, true}
 use mathlib.Core.Option.{Option, none, some, Option·map}
-use mathlib.Core.List.{List}
 use native.Mathlib.Omega.{arith}
 use borrow.Author.Tests.{ne-eqb}
 use Rattle.ground.specs.Choice.{if_then_else_}
+use Rattle.ground.proofs.Promise.{clash}
 use Rattle.wire.specs.declared.J.{J}
 use Rattle.wire.specs.declared.I.{I}
-use Rattle.wire.specs.Packet.{writeRefusal}
-use Rattle.wire.proofs.Fitting.{offer-fits, ok-fits, lost-fits}
-use Rattle.protocol.specs.Supply.{counted, next-counted}
+use Rattle.wire.specs.declared.Head.{Head}
+use Rattle.wire.specs.declared.Head.the-variants as head
+use Rattle.wire.specs.Packet.{numbered, writeRefusal}
+use Rattle.wire.proofs.Fitting.{offer-fits, ok-fits, lost-fits, first-above}
+use Rattle.protocol.specs.Supply.{numbering, next-counted}
 use Rattle.protocol.specs.Lists.{Opt}
 use Rattle.protocol.specs.Bears.{Controller-bears, ToController-bears, ToConsole-bears, Any}
 use Rattle.protocol.specs.Ends as rules
-use Rattle.protocol.specs.Relabel.{in-packet, in-controller-act}
 use Rattle.protocol.proofs.Lists.{if-holds}
-use Rattle.ends.specs.Means.{toController}
-use Rattle.ends.specs.Controller.{act}
-use Rattle.ends.specs.Fields.{controllerOk, controllerMode, controllerEnd, controllerWith}
-use Rattle.ends.proofs.ControllerFields.{by-mode}
+use Rattle.ends.specs.Means.{Beside, toController, forController, forConsole, forConsoleBack}
+use Rattle.ends.specs.Controller.{mode, end, acted}
+use Rattle.ends.specs.Fields.{controllerOk, controllerRead, controllerMode, controllerWith}
+use Rattle.ends.specs.InRules.{controllerMeans}
+use Rattle.ends.specs.Packets.{toConsolePacket, toConsoleSent, headForController}
+use Rattle.ends.proofs.ControllerFields.{by-mode, was-read}
+use Rattle.ends.proofs.ControllerRefusals.{same-for-console}
 use Rattle.ends.specs.declared.ToController.{ToController}
-use Rattle.ends.specs.declared.ToController.the-variants.{NeedI, Data, Done}
+use Rattle.ends.specs.declared.ToController.the-variants as up
+use Rattle.ends.specs.declared.ForController.{ForController}
 use Rattle.ends.specs.declared.ForController.the-variants as for-controller
+use Rattle.ends.specs.declared.ForConsole.{ForConsole}
+use Rattle.ends.specs.declared.controller.Acted.{Acted}
+use Rattle.ends.specs.declared.controller.End.{End}
 use Rattle.ends.specs.declared.controller.Mode.the-variants.{Idle, Accept, Ack}
-use Rattle.ends.specs.declared.controller.Act.{Act}
-use Rattle.ends.specs.declared.controller.Act.the-variants.{SendOffer, SendOk, Take, GoDown, ComeBack}
 use Rattle.ends.specs.declared.fields.Controller.{Controller}
+use Rattle.ends.specs.declared.fields.ControllerRead.the-variants.{Is}
 use Rattle.alone.specs.Alone.{Writable, Above}
-use Rattle.ends.specs.InRules.{controllerMeans, controllerActed}
-use Rattle.alone.specs.ControllerWithin.{Ready}
-use Rattle.ends.specs.Packets.{toConsolePacket}
 use Rattle.alone.proofs.Told.{fitting}
 
 -- ## What a well-formed controller's mode bears
@@ -59,10 +63,13 @@ meant c ok = by-mode Meant idle-meant accept-meant ack-meant c ok
 
 -- ## What it sends
 
+abbrev Borne : ToController → Type 0
+Borne p = ToController-bears Above Above Any (toController p)
+
 abbrev Sent : Option rules.ToConsole → Type 0
 Sent o = Opt (ToConsole-bears Above Above) o
 
-abbrev Turned : rules.ControllerTurn (List ℕ) → Type 0
+abbrev Turned : rules.ControllerTurn Beside → Type 0
 Turned t = Sent (t .sent)
 
 offer-ok : (k : rules.ControllerMode) → Bears k → Sent (rules.offer-sent k)
@@ -77,7 +84,7 @@ ok-ok rules.ControllerMode.idle h = tt
 ok-ok (rules.in-accept j i) h = tt
 ok-ok (rules.in-ack l) h = h
 
-reply-ok : (next : Option ℕ) (k : rules.ControllerMode) (p : rules.ToController (List ℕ)) → ToController-bears Above Above Any p → Turned (rules.controller-takes next k p)
+reply-ok : (next : Option ℕ) (k : rules.ControllerMode) (p : rules.ToController Beside) → ToController-bears Above Above Any p → Turned (rules.controller-takes next k p)
 unfolding rules.controller-takes
 reply-ok none rules.ControllerMode.idle (rules.needI j) h = tt
 reply-ok (some i) rules.ControllerMode.idle (rules.needI j) h = tt
@@ -101,23 +108,41 @@ sent-fits : (o : Option rules.ToConsole) (n : ℕ) → n ≡ 32 → Sent o → W
 sent-fits none n e h = tt
 sent-fits (some p) n e h = rw e (packet-fits p h)
 
--- the packet in with its message bears the same numbers
-borne : (p : ToController) (m : List ℕ) → ToController-bears Above Above Any (toController p) → ToController-bears Above Above Any (in-packet (λ _. m) (toController p))
-borne (NeedI j) m h = h
-borne (Data i) m h = (h .0, tt)
-borne (Done i) m h = h
+-- ## What a controller that was read sends
 
--- of any controller of the rules whose mode bears what it should
-acts-fit : (e : rules.Controller ℕ) (a : Act) (m : List ℕ) (n : ℕ) → Bears (e .mode) → Ready a n → Writable (Option·map toConsolePacket (rules.controller-acts counted e (in-controller-act (λ _. m) (act a)) .sent)) n
+other : {A : Type 0} (p : ToController) → for-controller.Nothing ≡ for-controller.Packet p → A
+other p e = absurd (clash cc)
+
+packet-same : (p q : ToController) → for-controller.Packet p ≡ for-controller.Packet q → Borne p → Borne q
+packet-same p q e h = let same : p ≡ q = cc in subst Borne same h
+
+-- a packet in that was read bears numbers
+borne : (h : Head) (p : ToController) → numbered h ≡ true → headForController h ≡ for-controller.Packet p → Borne p
+borne (head.NeedI j) p g q = packet-same (up.NeedI j) p q (first-above (head.NeedI j) g)
+borne (head.Offer j i) p g q = other p q
+borne (head.Data i) p g q = packet-same (up.Data i) p q (first-above (head.Data i) g, tt)
+borne (head.Ok i) p g q = other p q
+borne (head.Lost i) p g q = other p q
+borne (head.Done i) p g q = packet-same (up.Done i) p q (first-above (head.Done i) g)
+
+module _ (c : Controller) (e : End) (read : controllerRead c ≡ Is e) where
+  bears : Bears (mode (e .mode))
+  bears = subst (λ (x : End). Bears (mode (x .mode))) (sym (was-read c read .1)) (meant c (was-read c read .0))
+
+  as-sent : {s : ForConsole} (o : Option rules.ToConsole) (n : ℕ) → s ≡ forConsoleBack o → n ≡ 32 → Sent o → Writable (toConsoleSent s) n
+  unfolding toConsoleSent
+  as-sent o n f l h =
+      subst (λ (x : Option rules.ToConsole). Writable (Option·map toConsolePacket x) n) (sym (ap forConsole f ∙ same-for-console o)) (sent-fits o n l h)
+
+  pub offer-writable : {s : ForConsole} → s ≡ forConsoleBack (rules.offer-sent (mode (e .mode))) → Writable (toConsoleSent s) 32
+  offer-writable f = as-sent (rules.offer-sent (mode (e .mode))) 32 f refl (offer-ok (mode (e .mode)) bears)
+
+  pub ok-writable : {s : ForConsole} → s ≡ forConsoleBack (rules.ok-sent (mode (e .mode))) → Writable (toConsoleSent s) 32
+  ok-writable f = as-sent (rules.ok-sent (mode (e .mode))) 32 f refl (ok-ok (mode (e .mode)) bears)
+
+pub reply-writable : {d : Acted} {came : ForController} {p : ToController} (c : Controller) (e : End) (h : Head) (n : ℕ) → controllerRead c ≡ Is e → numbered h ≡ true → n ≡ 32 → came ≡ headForController h → came ≡ for-controller.Packet p
+    → d ≡ acted (rules.controller-acts numbering (end e) (rules.ControllerAct.take (forController (for-controller.Packet p)))) → Writable (toConsoleSent (d .sent)) n
 unfolding rules.controller-acts rules.controller-turn
-acts-fit e SendOffer m n h r = sent-fits (rules.offer-sent (e .mode)) n r (offer-ok (e .mode) h)
-acts-fit e SendOk m n h r = sent-fits (rules.ok-sent (e .mode)) n r (ok-ok (e .mode) h)
-acts-fit e (Take for-controller.Nothing) m n h r = tt
-acts-fit e (Take (for-controller.Packet p)) m n h r =
-    let q = in-packet (λ _. m) (toController p) in
-    sent-fits (rules.controller-takes (next-counted (e .numbers)) (e .mode) q .sent) n (r .0) (reply-ok (next-counted (e .numbers)) (e .mode) q (borne p m (r .1)))
-acts-fit e GoDown m n h r = tt
-acts-fit e ComeBack m n h r = tt
-
-pub can-write : (c : Controller) → controllerOk c ≡ true → (m : List ℕ) (a : Act) (n : ℕ) → Ready a n → Writable (Option·map toConsolePacket (controllerActed (controllerEnd c) a m .sent)) n
-can-write c ok m a n r = acts-fit (controllerMeans c) a m n (meant c ok) r
+reply-writable {p = p} c e h n read g l f q w =
+    as-sent c e read (rules.controller-takes (next-counted (e .used .0)) (mode (e .mode)) (toController p) .sent) n (ap (λ (x : Acted). x .sent) w) l
+    (reply-ok (next-counted (e .used .0)) (mode (e .mode)) (toController p) (borne h p g (sym f ∙ q)))

@@ -1,9 +1,9 @@
--- One letter, one act: an end run alone is asked exactly what the rules ask of that end on a bench at whose place the packet in lies, and 1
--- exactly where they ask the other end or none.
+-- One letter, one act: on each letter's byte a well-formed end run alone does what the rules ask of that end on a bench at whose place the packet in
+-- lies, and says 1 exactly where they ask the other end or none.
 use Prim.Native.Nat.{ℕ}
 use mathlib.Core.Path.{_≡_, refl, ap, _∙_}
 use mathlib.Core.Bool.{true}
-use mathlib.Core.Option.{none, some, Option·map}
+use mathlib.Core.Option.{Option, none, some, Option·map}
 use mathlib.Core.List.{List}
 use lib.ListN.{length}
 use Rattle.ground.specs.Cell.{isMessage}
@@ -12,120 +12,124 @@ use Rattle.ground.proofs.Promise.{clash}
 use Rattle.wire.specs.Packet.{packetRead}
 use Rattle.wire.specs.declared.ReadHead.{ReadHead}
 use Rattle.wire.specs.declared.ReadHead.the-variants as read-head
-use Rattle.wire.specs.declared.ReadPacket.{ReadPacket}
-use Rattle.protocol.specs.Supply.{counted}
+use Rattle.protocol.specs.Supply.{numbering}
 use Rattle.protocol.specs.Letters as letters
-use Rattle.protocol.specs.Ends as ends
-use Rattle.protocol.specs.Bench as rules
+use Rattle.protocol.specs.Letters.{Letter, line, letter, Asks, the-console, the-controller, neither-end, ConsoleAsk, ControllerAsk}
+use Rattle.protocol.specs.Ends as rules
+use Rattle.protocol.specs.Bench.{Bench, Asked, no-end, at, asked-to, asks}
 use Rattle.protocol.specs.Relabel.{in-packet}
-use Rattle.letters.specs.Lines.{foundOf, lineOf}
 use Rattle.ends.specs.Fields.{consoleOk, controllerOk}
 use Rattle.ends.specs.InRules.{consoleMeans, controllerMeans}
 use Rattle.ends.specs.Means.{forConsole, forController}
-use Rattle.ends.specs.Packets.{readForConsole, readForController}
+use Rattle.ends.specs.Packets.{headForConsole, headForController, readForConsole, readForController}
 use Rattle.ends.specs.declared.ForConsole.{ForConsole}
 use Rattle.ends.specs.declared.ForConsole.the-variants as for-console
 use Rattle.ends.specs.declared.ForController.{ForController}
 use Rattle.ends.specs.declared.ForController.the-variants as for-controller
 use Rattle.ends.specs.declared.fields.Console.{Console}
 use Rattle.ends.specs.declared.fields.Controller.{Controller}
-use Rattle.alone.specs.Alone.{lent, early}
-use Rattle.alone.specs.ConsoleAlone.{ConsoleAlone, consoleTakes, consoleHears, consoleAsked, consoleRefused, consoleTold, consoleStepped, consoleDoes, consoleAlone}
-use Rattle.alone.specs.ControllerAlone.{ControllerAlone, controllerTakes, controllerHeard, controllerAsked, controllerRefused, controllerTold, controllerStepped, controllerDoes, controllerAlone}
-use Rattle.alone.specs.Letters.{Wanted, act, refused, ofConsole, consoleWants, consoleLent, ofController, controllerWanted, controllerWants, controllerLent}
-use Rattle.alone.specs.declared.console.Asked as console-asked
-use Rattle.alone.specs.declared.console.Asked.the-variants as console-asked-is
-use Rattle.alone.specs.declared.controller.Asked as controller-asked
-use Rattle.alone.specs.declared.controller.Asked.the-variants as controller-asked-is
+use Rattle.alone.specs.ConsoleAlone.{ConsoleAlone, consoleRefused, consoleTold, consoleActs, consoleTakes, consoleHears, consoleLent, consoleAsks, consoleLetter, consoleAlone}
+use Rattle.alone.specs.ControllerAlone.{ControllerAlone, controllerRefused, controllerTold, controllerActs, controllerTakes, controllerHead, controllerLent, controllerAsks, controllerLetter, controllerAlone}
+use Rattle.alone.proofs.Calls.{consoleHeard, controllerHeardAs}
 
 no-packet : {A : Type 0} {B : Type 0} (q : A) → none ≡ some q → B
 no-packet q e = absurd (clash cc)
 
--- ## The packet in
+module _ {S : Type 0} (b : Bench S (List ℕ)) (place : ℕ) (m packet reply : List ℕ) where
+  -- what is lent is as the letter asks: a reply buffer of 32 bytes, and the packet in reads as the one at the place
+  abbrev pub Lent : Asks → Type 0
+  Lent (the-console letters.to-put) = Unit {0}
+  Lent (the-console letters.to-send-needI) = length reply ≡ 32
+  Lent (the-console letters.to-send-data) = length reply ≡ 32
+  Lent (the-console ConsoleAsk.to-take) =
+      (length reply ≡ 32) × ((q : rules.ToConsole) × ((at (b .toConsole) place ≡ some q) × (consoleHeard packet ≡ some q)))
+  Lent (the-console ConsoleAsk.to-go-down) = Unit {0}
+  Lent (the-console ConsoleAsk.to-come-back) = Unit {0}
+  Lent (the-controller letters.to-send-offer) = length reply ≡ 32
+  Lent (the-controller letters.to-send-ok) = length reply ≡ 32
+  Lent (the-controller ControllerAsk.to-take) =
+      (length reply ≡ 32) × ((q : rules.ToController (List ℕ)) × ((at (b .toController) place ≡ some q) × (controllerHeardAs packet ≡ some q)))
+  Lent (the-controller ControllerAsk.to-go-down) = Unit {0}
+  Lent (the-controller ControllerAsk.to-come-back) = Unit {0}
+  Lent neither-end = Unit {0}
 
-console-takes : (x : ForConsole) (q : ends.ToConsole) (m : List ℕ) → forConsole x ≡ some q → consoleWants (consoleTakes x) m ≡ act (ends.ConsoleAct.take (some q))
-console-takes for-console.Nothing q m e = no-packet q e
-console-takes (for-console.Packet p) q m e = ap (λ x. act (ends.ConsoleAct.take x)) e
+  -- ## The console
 
-console-hears : (p : ReadHead) (q : ends.ToConsole) (m : List ℕ) → forConsole (readForConsole p) ≡ some q → consoleWants (consoleHears p) m ≡ act (ends.ConsoleAct.take (some q))
-console-hears (read-head.Refused n) q m e = no-packet q e
-console-hears (read-head.Is h) q m e = console-takes (readForConsole (read-head.Is h)) q m e
+  module _ (c : Console) (ok : consoleOk c ≡ true) where
+    abbrev pub consoleObeys : Asked (List ℕ) → ConsoleAlone
+    consoleObeys (Asked.console a) = consoleTold (rules.console-step numbering isMessage (consoleMeans c) a) reply
+    consoleObeys (Asked.controller a) = consoleRefused 1 c reply
+    consoleObeys no-end = consoleRefused 1 c reply
 
-controller-takes : (x : ForController) (q : ends.ToController (List ℕ)) (m : List ℕ) → Option·map (in-packet (λ _. m)) (forController x) ≡ some q → controllerWanted (controllerTakes x) m ≡ act (ends.ControllerAct.take (some q))
-controller-takes for-controller.Nothing q m e = no-packet q e
-controller-takes (for-controller.Packet p) q m e = ap (λ x. act (ends.ControllerAct.take x)) e
+    console-takes : (f : ForConsole) (q : rules.ToConsole) → forConsole f ≡ some q → consoleTakes c reply f ≡ consoleActs c reply (rules.ConsoleAct.take (some q))
+    console-takes for-console.Nothing q e = no-packet q e
+    console-takes (for-console.Packet p) q e = ap (λ (o : Option rules.ToConsole). consoleActs c reply (rules.ConsoleAct.take o)) e
 
-controller-hears : (p : ReadHead) (q : ends.ToController (List ℕ)) (m : List ℕ) → Option·map (in-packet (λ _. m)) (forController (readForController p)) ≡ some q → controllerWanted (controllerHeard p) m ≡ act (ends.ControllerAct.take (some q))
-controller-hears (read-head.Refused n) q m e = no-packet q e
-controller-hears (read-head.Is h) q m e = controller-takes (readForController (read-head.Is h)) q m e
+    console-hears : (h : ReadHead) (q : rules.ToConsole) → forConsole (readForConsole h) ≡ some q → consoleHears c reply h ≡ consoleActs c reply (rules.ConsoleAct.take (some q))
+    console-hears (read-head.Refused n) q e = no-packet q e
+    console-hears (read-head.Is h) q e = console-takes (headForConsole h) q e
 
--- ## Letter by letter
+    console-asks : (a : Asks) → Lent a → consoleAsks c reply m packet a ≡ consoleObeys (asked-to a b place m)
+    unfolding consoleActs consoleLent if_then_else_
+    console-asks (the-console letters.to-put) h = rw ok
+    console-asks (the-console letters.to-send-needI) h = rw (ok, h)
+    console-asks (the-console letters.to-send-data) h = rw (ok, h)
+    console-asks (the-console ConsoleAsk.to-take) h =
+        rw (ok, h .0, h .1 .1 .0) (console-hears (packetRead packet .head) (h .1 .0) (h .1 .1 .1))
+    console-asks (the-console ConsoleAsk.to-go-down) h = rw ok
+    console-asks (the-console ConsoleAsk.to-come-back) h = rw ok
+    console-asks (the-controller a) h = controller-no a
+      where
+        controller-no : (a : ControllerAsk) → consoleRefused 1 c reply ≡ consoleObeys (asked-to (the-controller a) b place m)
+        controller-no letters.to-send-offer = refl
+        controller-no letters.to-send-ok = refl
+        controller-no ControllerAsk.to-take = refl
+        controller-no ControllerAsk.to-go-down = refl
+        controller-no ControllerAsk.to-come-back = refl
+    console-asks neither-end h = refl
 
-module _ {S : Type 0} (b : rules.Bench S (List ℕ)) (k : ℕ) (m : List ℕ) where
-  pub console-letters : (l : letters.Letter) (p : ReadHead) (n : ℕ) → consoleLent (rules.asks b l k m) p n → consoleWants (consoleAsked (foundOf (some l)) p n) m ≡ ofConsole (rules.asks b l k m)
-  unfolding rules.asks lineOf lent if_then_else_
-  console-letters letters.P-put p n h = refl
-  console-letters letters.Q-need p n h = rw h
-  console-letters letters.D-data p n h = rw h
-  console-letters letters.S-take p n h = rw (h .0, h .2) (console-hears p (h .1) m (h .3))
-  console-letters letters.C-down p n h = refl
-  console-letters letters.V-back p n h = refl
-  console-letters letters.O-offer p n h = refl
-  console-letters letters.K-ok p n h = refl
-  console-letters letters.R-take p n h = refl
-  console-letters letters.X-down p n h = refl
-  console-letters letters.Y-back p n h = refl
-  console-letters letters.L-lose p n h = refl
-  console-letters letters.M-lose p n h = refl
+    pub console-obeys : (byte : ℕ) (l : Letter) → letter byte ≡ some l → Lent (line l .asks) → consoleAlone c byte m packet reply ≡ consoleObeys (asks b l place m)
+    unfolding consoleAlone asks
+    console-obeys byte l e h = ap (consoleLetter c reply m packet) e ∙ console-asks (line l .asks) h
 
-  pub controller-letters : (l : letters.Letter) (p : ReadPacket) (n : ℕ) → controllerLent (rules.asks b l k m) p n → controllerWants (controllerAsked (foundOf (some l)) p n) ≡ ofController (rules.asks b l k m)
-  unfolding rules.asks lineOf lent if_then_else_
-  controller-letters letters.P-put p n h = refl
-  controller-letters letters.Q-need p n h = refl
-  controller-letters letters.D-data p n h = refl
-  controller-letters letters.S-take p n h = refl
-  controller-letters letters.C-down p n h = refl
-  controller-letters letters.V-back p n h = refl
-  controller-letters letters.O-offer p n h = rw h
-  controller-letters letters.K-ok p n h = rw h
-  controller-letters letters.R-take p n h = rw (h .0, h .2) (controller-hears (p .head) (h .1) (p .message) (h .3))
-  controller-letters letters.X-down p n h = refl
-  controller-letters letters.Y-back p n h = refl
-  controller-letters letters.L-lose p n h = refl
-  controller-letters letters.M-lose p n h = refl
+  -- ## The controller
 
--- ## So a well-formed end run alone does on each letter's byte what the rules' end does on a bench, or says 1
+  module _ (c : Controller) (ok : controllerOk c ≡ true) where
+    abbrev pub controllerObeys : Asked (List ℕ) → ControllerAlone
+    controllerObeys (Asked.console a) = controllerRefused 1 c reply
+    controllerObeys (Asked.controller a) = controllerTold (rules.controller-step numbering (controllerMeans c) a) reply
+    controllerObeys no-end = controllerRefused 1 c reply
 
-module _ (c : Console) (ok : consoleOk c ≡ true) (reply : List ℕ) where
-  abbrev pub consoleObeys : Wanted (ends.ConsoleAct (List ℕ)) → ConsoleAlone
-  consoleObeys (act a) = consoleTold (ends.console-step counted isMessage (consoleMeans c) a) reply
-  consoleObeys (refused n) = consoleRefused (early n true) c reply
+    abbrev came : ForController → Option (rules.ToController (List ℕ))
+    came f = Option·map (in-packet (λ _. packetRead packet .message)) (forController f)
 
-  console-wants : (a : console-asked.Asked) (m : List ℕ) → consoleDoes c a m reply ≡ consoleObeys (consoleWants a m)
-  unfolding consoleStepped if_then_else_
-  console-wants (console-asked-is.Refused n) m = rw ok
-  console-wants (console-asked-is.Is a) m = rw ok
+    controller-takes : (f : ForController) (q : rules.ToController (List ℕ)) → came f ≡ some q → controllerTakes c reply (packetRead packet .message) f ≡ controllerActs c reply (rules.ControllerAct.take (some q))
+    controller-takes for-controller.Nothing q e = no-packet q e
+    controller-takes (for-controller.Packet p) q e = ap (λ (o : Option (rules.ToController (List ℕ))). controllerActs c reply (rules.ControllerAct.take o)) e
 
-  pub console-obeys : {S : Type 0} (b : rules.Bench S (List ℕ)) (k : ℕ) (m : List ℕ) (byte : ℕ) (l : letters.Letter) (packet : List ℕ) → letters.letter byte ≡ some l → consoleLent (rules.asks b l k m) (packetRead packet .head) (length reply)
-      → consoleAlone c byte m packet reply ≡ consoleObeys (ofConsole (rules.asks b l k m))
-  unfolding consoleAlone
-  console-obeys b k m byte l packet e h =
-      rw e (console-wants (consoleAsked (foundOf (some l)) (packetRead packet .head) (length reply)) m
-      ∙ ap consoleObeys (console-letters b k m l (packetRead packet .head) (length reply) h))
+    controller-hears : (h : ReadHead) (q : rules.ToController (List ℕ)) → came (readForController h) ≡ some q → controllerHead c reply (packetRead packet .message) h ≡ controllerActs c reply (rules.ControllerAct.take (some q))
+    controller-hears (read-head.Refused n) q e = no-packet q e
+    controller-hears (read-head.Is h) q e = controller-takes (headForController h) q e
 
-module _ (c : Controller) (ok : controllerOk c ≡ true) (reply : List ℕ) where
-  abbrev pub controllerObeys : Wanted (ends.ControllerAct (List ℕ)) → ControllerAlone
-  controllerObeys (act a) = controllerTold (ends.controller-step counted (controllerMeans c) a) reply
-  controllerObeys (refused n) = controllerRefused (early n true) c reply
+    controller-asks : (a : Asks) → Lent a → controllerAsks c reply packet a ≡ controllerObeys (asked-to a b place m)
+    unfolding controllerActs controllerLent if_then_else_
+    controller-asks (the-console a) h = console-no a
+      where
+        console-no : (a : ConsoleAsk) → controllerRefused 1 c reply ≡ controllerObeys (asked-to (the-console a) b place m)
+        console-no letters.to-put = refl
+        console-no letters.to-send-needI = refl
+        console-no letters.to-send-data = refl
+        console-no ConsoleAsk.to-take = refl
+        console-no ConsoleAsk.to-go-down = refl
+        console-no ConsoleAsk.to-come-back = refl
+    controller-asks (the-controller letters.to-send-offer) h = rw (ok, h)
+    controller-asks (the-controller letters.to-send-ok) h = rw (ok, h)
+    controller-asks (the-controller ControllerAsk.to-take) h =
+        rw (ok, h .0, h .1 .1 .0) (controller-hears (packetRead packet .head) (h .1 .0) (h .1 .1 .1))
+    controller-asks (the-controller ControllerAsk.to-go-down) h = rw ok
+    controller-asks (the-controller ControllerAsk.to-come-back) h = rw ok
+    controller-asks neither-end h = refl
 
-  controller-wants : (a : controller-asked.Asked) (m : List ℕ) → controllerDoes c a m reply ≡ controllerObeys (controllerWanted a m)
-  unfolding controllerStepped if_then_else_
-  controller-wants (controller-asked-is.Refused n) m = rw ok
-  controller-wants (controller-asked-is.Is a) m = rw ok
-
-  pub controller-obeys : {S : Type 0} (b : rules.Bench S (List ℕ)) (k : ℕ) (m : List ℕ) (byte : ℕ) (l : letters.Letter) (packet : List ℕ) → letters.letter byte ≡ some l → controllerLent (rules.asks b l k m) (packetRead packet) (length reply)
-      → controllerAlone c byte packet reply ≡ controllerObeys (ofController (rules.asks b l k m))
-  unfolding controllerAlone
-  controller-obeys b k m byte l packet e h =
-      let r = controllerAsked (foundOf (some l)) (packetRead packet) (length reply) in
-      rw e (controller-wants (r .asked) (r .message) ∙ ap controllerObeys (controller-letters b k m l (packetRead packet) (length reply) h))
+    pub controller-obeys : (byte : ℕ) (l : Letter) → letter byte ≡ some l → Lent (line l .asks) → controllerAlone c byte packet reply ≡ controllerObeys (asks b l place m)
+    unfolding controllerAlone asks
+    controller-obeys byte l e h = ap (controllerLetter c reply packet) e ∙ controller-asks (line l .asks) h

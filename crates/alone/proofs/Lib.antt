@@ -1,11 +1,8 @@
-pub mod ByAct
 pub mod Calls
 pub mod ConsoleAlone
-pub mod ConsoleAsking
 pub mod ConsoleReady
 pub mod ConsoleTold
 pub mod ControllerAlone
-pub mod ControllerAsking
 pub mod ControllerReady
 pub mod ControllerTold
 pub mod Determined

@@ -11,14 +11,13 @@ use Rattle.ground.specs.Choice.{if_then_else_}
 use Rattle.ground.specs.Every.{filled}
 use Rattle.protocol.specs.Letters.{line, letters, among, letter}
 use Rattle.protocol.specs.Ends as rules
-use Rattle.letters.specs.Lines.{lineOf}
 use Rattle.ends.specs.Fields.{consoleOk, consoleMode, freshConsole, downedConsole, controllerOk, controllerMode, freshController, downedController}
 use Rattle.ends.proofs.Telling.{unchanged, controller-unchanged}
 use Rattle.ends.specs.declared.Report.the-variants as report
 use Rattle.ends.specs.declared.fields.Console.{Console}
 use Rattle.ends.specs.declared.fields.Controller.{Controller}
-use Rattle.alone.specs.ConsoleAlone.{ConsoleAlone, consoleStepped, consoleAlone}
-use Rattle.alone.specs.ControllerAlone.{ControllerAlone, controllerStepped, controllerAlone}
+use Rattle.alone.specs.ConsoleAlone.{ConsoleAlone, consoleActs, consoleAlone}
+use Rattle.alone.specs.ControllerAlone.{ControllerAlone, controllerActs, controllerAlone}
 
 -- ## The console: C is 0x43, V is 0x56
 
@@ -31,11 +30,11 @@ abbrev console-off : Console → Console
 console-off c = record { used = c .used; held = c .held; message = c .message; j = c .j; last = c .last; up = false }
 
 console-goes-down : (c : Console) → length (c .message) ≡ 16 → consoleOk c ≡ true → (m packet reply : List ℕ) → consoleAlone c 0x43 m packet reply ≡ console-quiet (console-off c) reply
-unfolding consoleAlone consoleStepped consoleOk consoleMode rules.ends line letters among letter lineOf
+unfolding consoleAlone consoleActs consoleOk consoleMode rules.ends line letters among letter
 console-goes-down c long ok m packet reply = rw ok (λ i. console-quiet (unchanged (console-off c) long ok i) reply)
 
 console-comes-back : (c : Console) → consoleOk c ≡ true → c .up ≡ false → (m packet reply : List ℕ) → consoleAlone c 0x56 m packet reply ≡ console-quiet (freshConsole (c .used)) reply
-unfolding consoleAlone consoleStepped rules.ends line letters among letter lineOf
+unfolding consoleAlone consoleActs rules.ends line letters among letter
 console-comes-back c ok down m packet reply = rw (ok, down)
 
 downed-ok : (c : Console) → consoleOk (downedConsole (c .used)) ≡ true
@@ -64,11 +63,11 @@ abbrev controller-off : Controller → Controller
 controller-off c = record { used = c .used; j = c .j; i = c .i; last = c .last; up = false }
 
 controller-goes-down : (c : Controller) → controllerOk c ≡ true → (packet reply : List ℕ) → controllerAlone c 0x58 packet reply ≡ controller-quiet (controller-off c) reply
-unfolding controllerAlone controllerStepped controllerOk controllerMode rules.ends line letters among letter lineOf
+unfolding controllerAlone controllerActs controllerOk controllerMode rules.ends line letters among letter
 controller-goes-down c ok packet reply = rw ok (λ i. controller-quiet (controller-unchanged (controller-off c) ok i) reply)
 
 controller-comes-back : (c : Controller) → controllerOk c ≡ true → c .up ≡ false → (packet reply : List ℕ) → controllerAlone c 0x59 packet reply ≡ controller-quiet (freshController (c .used)) reply
-unfolding controllerAlone controllerStepped rules.ends line letters among letter lineOf
+unfolding controllerAlone controllerActs rules.ends line letters among letter
 controller-comes-back c ok down packet reply = rw (ok, down)
 
 controller-downed-ok : (c : Controller) → controllerOk (downedController (c .used)) ≡ true

@@ -13,7 +13,6 @@ use Rattle.wire.specs.declared.Head.the-variants.{NeedI, Offer, Data, Ok, Lost,
 use Rattle.protocol.specs.Supply.{next-counted}
 use Rattle.protocol.specs.Letters.{line, letters, among, letter}
 use Rattle.protocol.specs.Ends as rules
-use Rattle.letters.specs.Lines.{lineOf}
 use Rattle.ends.specs.Fields.{consoleOk, consoleMode, consoleWith, freshConsole, downedConsole}
 use Rattle.ends.specs.Fields.{controllerOk, controllerMode, controllerWith, freshController, downedController}
 use Rattle.ends.specs.declared.console.Mode.the-variants as mode
@@ -23,14 +22,13 @@ use Rattle.ends.specs.declared.Report.the-variants as report
 use Rattle.ends.specs.declared.fields.Console.{Console}
 use Rattle.ends.specs.declared.fields.Controller.{Controller}
 use Rattle.ends.specs.Packets.{zeros}
-use Rattle.alone.specs.Alone.{lent, early}
-use Rattle.alone.specs.ConsoleAlone.{ConsoleAlone, consoleStepped, consoleAlone}
-use Rattle.alone.specs.ControllerAlone.{ControllerAlone, controllerStepped, controllerAlone}
+use Rattle.alone.specs.ConsoleAlone.{ConsoleAlone, consoleActs, consoleLent, consoleAlone}
+use Rattle.alone.specs.ControllerAlone.{ControllerAlone, controllerActs, controllerLent, controllerAlone}
 
 -- all that an example computes with
 unfoldable pub opened : Unit {0}
-unfolding consoleAlone consoleOk consoleMode consoleStepped controllerAlone controllerOk controllerMode controllerStepped rules.ends next-counted
-    packetBytes packetRead readRefusal headAt headOf value bytesOf isBlank isMessage cells filled lent early line letters among letter lineOf
+unfolding consoleAlone consoleOk consoleMode consoleActs consoleLent controllerAlone controllerOk controllerMode controllerActs controllerLent rules.ends next-counted
+    packetBytes packetRead readRefusal headAt headOf value bytesOf isBlank isMessage cells filled line letters among letter
 opened = tt
 
 abbrev pub packet : Head → List ℕ → List ℕ

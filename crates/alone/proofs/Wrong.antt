@@ -44,7 +44,7 @@ put-told : (packet reply : List ℕ) → consoleAlone (freshConsole (record { 0 
 unfolding opened
 put-told packet reply = refl
 
-module _ (κs : Lfts 2) (a : Dens κs console-step-kinds.ps) (x : ConsoleOutcome) (s : AtExit (endedOf 2 console-step-kinds.ps console-step-kinds.r) κs) (fresh : a .0 ≡ freshConsole (record { 0 = 0 })) (puts : a .1 .0 ≡ 0x50) (message : a .1 .1 .0 ≡ spaces) (meets : console-step.Post κs a x s) where
+module _ (κs : Lfts 3) (a : Dens κs console-step-kinds.ps) (x : ConsoleOutcome) (s : AtExit (endedOf 3 console-step-kinds.ps console-step-kinds.r) κs) (fresh : a .0 ≡ freshConsole (record { 0 = 0 })) (puts : a .1 .0 ≡ 0x50) (message : now (a .1 .1 .0) ≡ spaces) (meets : console-step.Post κs a x s) where
   put-so : x ≡ putting
   put-so =
       ap (λ (r : ConsoleAlone). r .outcome)
@@ -86,12 +86,12 @@ module _ (κs : Lfts 2) (a : Dens κs controller-step-kinds.ps) (x : ControllerO
 
 -- ## Refusals of a console: a letter, a packet in, a reply buffer
 
-abbrev console-given : Console → ℕ → List ℕ → List ℕ → (κs : Lfts 2) → Dens κs console-step-kinds.ps → Type 0
+abbrev console-given : Console → ℕ → List ℕ → List ℕ → (κs : Lfts 3) → Dens κs console-step-kinds.ps → Type 0
 console-given c l packet reply κs a = (a .0 ≡ c) × (a .1 .0 ≡ l) × (now (a .1 .1 .1 .0) ≡ packet) × (now (a .1 .1 .1 .1 .0) ≡ reply)
 
-console-says : (c : Console) (l : ℕ) (p r : List ℕ) (κs : Lfts 2) (a : Dens κs console-step-kinds.ps) (x : ConsoleOutcome) (s : AtExit (endedOf 2 console-step-kinds.ps console-step-kinds.r) κs)
-    → console-given c l p r κs a → console-step.Post κs a x s → x .report ≡ consoleAlone c l (a .1 .1 .0) p r .outcome .report
-console-says c l p r κs a x s e meets = ap (λ (o : ConsoleAlone). o .outcome .report) (meets ∙ (λ i. consoleAlone (e .0 i) (e .1 i) (a .1 .1 .0) (e .2 i) (e .3 i)))
+console-says : (c : Console) (l : ℕ) (p r : List ℕ) (κs : Lfts 3) (a : Dens κs console-step-kinds.ps) (x : ConsoleOutcome) (s : AtExit (endedOf 3 console-step-kinds.ps console-step-kinds.r) κs)
+    → console-given c l p r κs a → console-step.Post κs a x s → x .report ≡ consoleAlone c l (now (a .1 .1 .0)) p r .outcome .report
+console-says c l p r κs a x s e meets = ap (λ (o : ConsoleAlone). o .outcome .report) (meets ∙ (λ i. consoleAlone (e .0 i) (e .1 i) (now (a .1 .1 .0)) (e .2 i) (e .3 i)))
 
 -- S of a lost that is not last is dropped, with a reply buffer of 31 bytes
 abbrev old-lost : List ℕ

@@ -1,77 +1,34 @@
--- A console run alone: what a letter asks of it, what it tells, and what stands in the reply buffer afterwards. Assumes nothing.
-use Rattle.ground.specs.Choice.{if_then_else_}
+-- A console run alone: what it tells, and what stands in the reply buffer afterwards, refusal by refusal in document 01's order. Assumes nothing.
 use Prim.Native.Nat.{ℕ}
 use mathlib.Core.Bool.{false, not}
-use mathlib.Core.Option.{Option·map}
+use mathlib.Core.Option.{Option, none, some, Option·map}
 use mathlib.Core.List.{List}
 use lib.ListN.{length}
+use lib.Dec.{eqb}
 use Rattle.ground.specs.Cell.{isMessage}
+use Rattle.ground.specs.Choice.{if_then_else_}
 use Rattle.wire.specs.Packet.{packetRead}
-use Rattle.wire.specs.declared.Packet.{Packet}
 use Rattle.wire.specs.declared.ReadHead.{ReadHead}
 use Rattle.wire.specs.declared.ReadHead.the-variants as read-head
-use Rattle.protocol.specs.Supply.{counted}
-use Rattle.protocol.specs.Letters.{letter}
+use Rattle.protocol.specs.Supply.{numbering}
+use Rattle.protocol.specs.Letters.{Letter, line, letter, Asks, the-console, the-controller, neither-end, ConsoleAsk, to-put, to-send-needI, to-send-data}
 use Rattle.protocol.specs.Ends as rules
-use Rattle.protocol.specs.Relabel.{in-console-act}
-use Rattle.letters.specs.Lines.{foundOf, foundRefusal}
-use Rattle.letters.specs.declared.Letter.{Letter}
-use Rattle.letters.specs.declared.Letter.the-variants as letters
-use Rattle.letters.specs.declared.Found.{Found}
-use Rattle.letters.specs.declared.Found.the-variants as found
-use Rattle.ends.specs.Packets.{toControllerPacket, headForConsole, forConsoleRefusal}
-use Rattle.ends.specs.Means.{reportBack}
-use Rattle.ends.specs.Console as console
+use Rattle.ends.specs.Packets.{toControllerPacket, headForConsole}
+use Rattle.ends.specs.Means.{toConsole, reportBack}
 use Rattle.ends.specs.Fields.{consoleOk}
 use Rattle.ends.specs.InRules.{consoleMeans, consoleBack}
 use Rattle.ends.specs.declared.ForConsole.{ForConsole}
 use Rattle.ends.specs.declared.ForConsole.the-variants as for-console
-use Rattle.ends.specs.declared.console.Act.{Act}
-use Rattle.ends.specs.declared.console.Act.the-variants as act
 use Rattle.ends.specs.declared.Report.the-variants as report
 use Rattle.ends.specs.declared.fields.Console.{Console}
-use Rattle.alone.specs.Alone.{lent, early, replied}
-use Rattle.alone.specs.declared.console.Asked.{Asked}
-use Rattle.alone.specs.declared.console.Asked.the-variants.{Refused, Is}
+use Rattle.alone.specs.Alone.{replied}
 use Rattle.alone.specs.declared.console.ConsoleOutcome.{ConsoleOutcome}
-
--- ## What a letter asks of a console, or the refusal: 1; 12 of the reply buffer, which Q D S are lent; 12 to 15 of the packet in, which S takes
-
--- a packet in whose kind goes the other way is 15
-abbrev pub consoleTakes : ForConsole → Asked
-consoleTakes for-console.Nothing = Refused (forConsoleRefusal for-console.Nothing)
-consoleTakes (for-console.Packet p) = Is (act.Take (for-console.Packet p))
-
-abbrev pub consoleHears : ReadHead → Asked
-consoleHears (read-head.Refused n) = Refused n
-consoleHears (read-head.Is h) = consoleTakes (headForConsole h)
-
--- n is the length of the reply buffer
-abbrev pub consoleAsks : Letter → ReadHead → ℕ → Asked
-consoleAsks letters.P p n = Is act.Put
-consoleAsks letters.Q p n = lent Refused n (Is act.SendNeedI)
-consoleAsks letters.D p n = lent Refused n (Is act.SendData)
-consoleAsks letters.S p n = lent Refused n (consoleHears p)
-consoleAsks letters.C p n = Is act.GoDown
-consoleAsks letters.V p n = Is act.ComeBack
-consoleAsks letters.O p n = Refused 1
-consoleAsks letters.K p n = Refused 1
-consoleAsks letters.R p n = Refused 1
-consoleAsks letters.X p n = Refused 1
-consoleAsks letters.Y p n = Refused 1
-consoleAsks letters.L p n = Refused 1
-consoleAsks letters.M p n = Refused 1
-
-abbrev pub consoleAsked : Found → ReadHead → ℕ → Asked
-consoleAsked found.Nothing p n = Refused (foundRefusal found.Nothing)
-consoleAsked (found.Line l) p n = consoleAsks (l .letter) p n
-
--- ## The promise
 
 pub record ConsoleAlone : Type 0 where
   pub outcome : ConsoleOutcome
   pub reply : List ℕ
 
+-- a refusal leaves the console and the reply buffer
 abbrev pub consoleRefused : ℕ → Console → List ℕ → ConsoleAlone
 consoleRefused n c reply = record { outcome = record { report = report.Refused n; sent = false; console = c }; reply = reply }
 
@@ -82,18 +39,45 @@ consoleTold d reply =
       reply = replied (Option·map toControllerPacket (d .sent)) reply;
     }
 
--- what the rules' console does, or refuses
-unfoldable pub consoleStepped : Console → Act → List ℕ → rules.ConsoleActed ℕ (List ℕ)
-consoleStepped c a message = rules.console-step counted isMessage (consoleMeans c) (in-console-act (λ _. message) (console.act a))
+module _ (c : Console) (reply : List ℕ) where
+  -- what the rules' console does, or refuses
+  unfoldable pub consoleActs : rules.ConsoleAct (List ℕ) → ConsoleAlone
+  consoleActs act = consoleTold (rules.console-step numbering isMessage (consoleMeans c) act) reply
 
--- 1, 2, 12, 13, 14, 15; then what the rules' console does and refuses
-abbrev pub consoleDoes : Console → Asked → List ℕ → List ℕ → ConsoleAlone
-consoleDoes c (Refused n) message reply =
-    consoleRefused (early n (consoleOk c)) c reply
-consoleDoes c (Is a) message reply =
-    if consoleOk c then consoleTold (consoleStepped c a message) reply
-    else consoleRefused 2 c reply
+  -- a packet in whose kind goes the other way is 15
+  abbrev pub consoleTakes : ForConsole → ConsoleAlone
+  consoleTakes for-console.Nothing = consoleRefused 15 c reply
+  consoleTakes (for-console.Packet p) = consoleActs (rules.ConsoleAct.take (some (toConsole p)))
+
+  -- 12 to 15 of the packet in
+  abbrev pub consoleHears : ReadHead → ConsoleAlone
+  consoleHears (read-head.Refused n) = consoleRefused n c reply
+  consoleHears (read-head.Is h) = consoleTakes (headForConsole h)
+
+  -- 12 of the reply buffer, whose length is looked at even with nothing to send
+  unfoldable pub consoleLent : ConsoleAlone → ConsoleAlone
+  consoleLent asked = if eqb (length reply) 32 then asked else consoleRefused 12 c reply
+
+  module _ (message packet : List ℕ) where
+    -- Q D S are lent the reply buffer, S takes the packet in
+    abbrev pub consoleAsked : ConsoleAsk → ConsoleAlone
+    consoleAsked to-put = consoleActs (rules.put message)
+    consoleAsked to-send-needI = consoleLent (consoleActs rules.send-needI)
+    consoleAsked to-send-data = consoleLent (consoleActs rules.send-data)
+    consoleAsked ConsoleAsk.to-take = consoleLent (consoleHears (packetRead packet .head))
+    consoleAsked ConsoleAsk.to-go-down = consoleActs rules.ConsoleAct.go-down
+    consoleAsked ConsoleAsk.to-come-back = consoleActs rules.ConsoleAct.come-back
+
+    -- 1: a letter that asks the other end, or none. 2: the console is not well formed
+    abbrev pub consoleAsks : Asks → ConsoleAlone
+    consoleAsks (the-console ask) = if consoleOk c then consoleAsked ask else consoleRefused 2 c reply
+    consoleAsks (the-controller ask) = consoleRefused 1 c reply
+    consoleAsks neither-end = consoleRefused 1 c reply
+
+    -- 1: no action has this letter
+    abbrev pub consoleLetter : Option Letter → ConsoleAlone
+    consoleLetter none = consoleRefused 1 c reply
+    consoleLetter (some l) = consoleAsks (line l .asks)
 
 unfoldable pub consoleAlone : Console → ℕ → List ℕ → List ℕ → List ℕ → ConsoleAlone
-consoleAlone c l message packet reply =
-    consoleDoes c (consoleAsked (foundOf (letter l)) (packetRead packet .head) (length reply)) message reply
+consoleAlone c l message packet reply = consoleLetter c reply message packet (letter l)

@@ -1,28 +1,36 @@
 -- What the private functions of a console run alone promise each other. Nothing of it stands in the entry's promise. Assumes nothing.
 use Prim.Native.Nat.{ℕ}
-use mathlib.Core.Path.{_≡_}
-use mathlib.Core.Bool.{Bool, true}
-use Rattle.protocol.specs.Lists.{Opt}
-use Rattle.protocol.specs.Bears.{ToConsole-bears}
-use Rattle.ends.specs.Means.{forConsole}
-use Rattle.ends.specs.declared.console.Act.{Act}
-use Rattle.ends.specs.declared.console.Act.the-variants as act
-use Rattle.alone.specs.Alone.{Above}
+use mathlib.Core.Bool.{Bool, not}
+use mathlib.Core.List.{List, [], _∷_}
+use lib.Dec.{eqb}
+use Rattle.ground.specs.Choice.{if_then_else_}
+use Rattle.ground.specs.First.{first}
+use Rattle.protocol.specs.Ends.{absent, down-4, mode-6}
+use Rattle.ends.specs.Fields.{consoleFields}
+use Rattle.ends.specs.Means.{forController}
+use Rattle.ends.specs.Packets.{toControllerSent}
+use Rattle.ends.specs.declared.ForController.{ForController}
+use Rattle.ends.specs.declared.Report.the-variants as report
+use Rattle.ends.specs.declared.console.Acted.{Acted}
+use Rattle.ends.specs.declared.fields.Console.{Console}
+use Rattle.alone.specs.Alone.{replied}
+use Rattle.alone.specs.ConsoleAlone.{ConsoleAlone, consoleRefused}
 
--- what a letter that is not refused leaves to be relied on: the reply buffer, where the act may send, and the numbers of the packet in
-abbrev pub Ready : Act → ℕ → Type 0
-Ready act.Put n = Unit {0}
-Ready act.SendNeedI n = n ≡ 32
-Ready act.SendData n = n ≡ 32
-Ready (act.Take p) n = (n ≡ 32) × Opt (ToConsole-bears Above Above) (forConsole p)
-Ready act.GoDown n = Unit {0}
-Ready act.ComeBack n = Unit {0}
+-- what was done, where the console then holds m, if it holds a message
+abbrev pub consoleTells : Acted → List ℕ → List ℕ → ConsoleAlone
+consoleTells d m reply =
+    record {
+      outcome = record { report = d .report; sent = not (absent (forController (d .sent))); console = consoleFields (d .after) m };
+      reply = replied (toControllerSent (d .sent) m) reply;
+    }
 
--- a message is looked at by a put alone
-abbrev pub looked : Act → Bool → Bool
-looked act.Put good = good
-looked act.SendNeedI good = true
-looked act.SendData good = true
-looked (act.Take p) good = true
-looked act.GoDown good = true
-looked act.ComeBack good = true
+-- Q and D, of what they would send: 4, 6; else it is sent, and nothing of the console changes
+unfoldable pub consoleSends : Console → Bool → ForController → List ℕ → ConsoleAlone
+consoleSends c up sent reply =
+    let n = first (down-4 up ∷ mode-6 (forController sent) ∷ []) in
+    if eqb n 0
+    then record {
+      outcome = record { report = report.Nothing; sent = not (absent (forController sent)); console = c };
+      reply = replied (toControllerSent sent (c .message)) reply;
+    }
+    else consoleRefused n c reply

@@ -1,17 +1,44 @@
 -- What the private functions of a controller run alone promise each other. Nothing of it stands in the entry's promise. Assumes nothing.
 use Prim.Native.Nat.{ℕ}
-use mathlib.Core.Path.{_≡_}
-use Rattle.protocol.specs.Lists.{Opt}
-use Rattle.protocol.specs.Bears.{ToController-bears, Any}
-use Rattle.ends.specs.Means.{forController}
-use Rattle.ends.specs.declared.controller.Act.{Act}
-use Rattle.ends.specs.declared.controller.Act.the-variants as act
-use Rattle.alone.specs.Alone.{Above}
+use mathlib.Core.Bool.{Bool, not}
+use mathlib.Core.List.{List, [], _∷_}
+use lib.Dec.{eqb}
+use Rattle.ground.specs.Cell.{spaces}
+use Rattle.ground.specs.Choice.{if_then_else_}
+use Rattle.ground.specs.First.{first}
+use Rattle.protocol.specs.Ends.{absent, down-4, mode-6}
+use Rattle.ends.specs.Fields.{controllerFields}
+use Rattle.ends.specs.InRules.{deliveredBeside}
+use Rattle.ends.specs.Means.{forConsole}
+use Rattle.ends.specs.Packets.{toConsoleSent}
+use Rattle.ends.specs.declared.ForConsole.{ForConsole}
+use Rattle.ends.specs.declared.Report.the-variants as report
+use Rattle.ends.specs.declared.controller.Acted.{Acted}
+use Rattle.ends.specs.declared.fields.Controller.{Controller}
+use Rattle.alone.specs.Alone.{replied}
+use Rattle.alone.specs.ControllerAlone.{ControllerAlone, controllerRefused}
 
--- what a letter that is not refused leaves to be relied on: the reply buffer, where the act may send, and the numbers of the packet in
-abbrev pub Ready : Act → ℕ → Type 0
-Ready act.SendOffer n = n ≡ 32
-Ready act.SendOk n = n ≡ 32
-Ready (act.Take p) n = (n ≡ 32) × Opt (ToController-bears Above Above Any) (forController p)
-Ready act.GoDown n = Unit {0}
-Ready act.ComeBack n = Unit {0}
+-- what was done with a packet in whose message is m
+abbrev pub controllerTells : Acted → List ℕ → List ℕ → ControllerAlone
+controllerTells d m reply =
+    record {
+      outcome =
+          record {
+            report = d .report;
+            message = deliveredBeside (d .report) m;
+            sent = not (absent (forConsole (d .sent)));
+            controller = controllerFields (d .after);
+          };
+      reply = replied (toConsoleSent (d .sent)) reply;
+    }
+
+-- O and K, of what they would send: 4, 6; else it is sent, and nothing of the controller changes
+unfoldable pub controllerSends : Controller → Bool → ForConsole → List ℕ → ControllerAlone
+controllerSends c up sent reply =
+    let n = first (down-4 up ∷ mode-6 (forConsole sent) ∷ []) in
+    if eqb n 0
+    then record {
+      outcome = record { report = report.Nothing; message = spaces; sent = not (absent (forConsole sent)); controller = c };
+      reply = replied (toConsoleSent sent) reply;
+    }
+    else controllerRefused n c reply

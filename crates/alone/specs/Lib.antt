@@ -3,4 +3,3 @@ pub mod ConsoleAlone
 pub mod ConsoleWithin
 pub mod ControllerAlone
 pub mod ControllerWithin
-pub mod Letters

@@ -1,41 +1,35 @@
 // A console run alone.
-use crate::early;
 use ends::ForConsole;
 use ends::ForController;
 use ends::Report;
 use ends::beside::for_console;
 use ends::beside::to_controller;
-use ends::console::Act;
+use ends::console;
+use ends::console::Acted;
 use ends::console::End;
 use ends::fields::Console;
 use ends::fields::ConsoleRead;
 use ends::fields::console_of;
 use ends::fields::read_console;
+use letters::Asks;
+use letters::ConsoleAsk;
 use letters::Found;
-use letters::Letter;
+use wire::Head;
 use wire::ReadHead;
 ghost use mathlib.Core.Path.{_≡_};
-ghost use mathlib.Core.Bool.{not, false};
-ghost use mathlib.Core.Option.{Option·map};
+ghost use mathlib.Core.Bool.{not, true, false};
+ghost use mathlib.Core.List.{List};
+ghost use Prim.Native.Nat.{ℕ};
 ghost use lib.ListN.{length};
-ghost use Rattle.ground.specs.Cell.{isMessage};
-ghost use Rattle.wire.specs.Packet.{packetRead};
-ghost use Rattle.protocol.specs.Ends.{absent};
-ghost use Rattle.protocol.specs.Letters.{letter};
-ghost use Rattle.letters.specs.Lines.{foundOf};
-ghost use Rattle.ends.specs.Fields.{consoleRead};
+ghost use Rattle.wire.specs.Packet.{numbered, packetRead};
+ghost use Rattle.protocol.specs.Ends.{absent, put, ConsoleAct};
+ghost use Rattle.letters.specs.Lines.{consoleAskMeans};
+ghost use Rattle.ends.specs.Fields.{consoleRead, consoleFields};
 ghost use Rattle.ends.specs.Means.{forController};
-ghost use Rattle.alone.specs.Alone.{Writable, replied, lent};
-ghost use Rattle.alone.specs.ConsoleAlone.{consoleTakes, consoleHears, consoleAsks, consoleAsked};
-ghost use Rattle.ends.specs.Packets.{toControllerPacket, toControllerSent};
-ghost use Rattle.alone.specs.ConsoleAlone.{consoleStepped, consoleTold, consoleAlone};
-ghost use Rattle.alone.specs.ConsoleWithin.{looked, Ready};
-ghost use Rattle.ends.specs.InRules.{kept, consoleActed};
-
-enum Asked {
-    Refused(u8),
-    Is(Act),
-}
+ghost use Rattle.ends.specs.Packets.{headForConsole, toControllerSent};
+ghost use Rattle.alone.specs.Alone.{Writable, replied};
+ghost use Rattle.alone.specs.ConsoleAlone.{consoleActs, consoleTakes, consoleHears, consoleLent, consoleAsked, consoleAlone};
+ghost use Rattle.alone.specs.ConsoleWithin.{consoleTells, consoleSends};
 
 pub struct ConsoleOutcome {
     pub report: Report,
@@ -43,66 +37,13 @@ pub struct ConsoleOutcome {
     pub console: Console,
 }
 
-fn takes(came: ForConsole) -> Asked
-    ensures { λ r. ⌜ r ≡ consoleTakes came ⌝ }
+fn refused(n: u8, c: Console) -> ConsoleOutcome
+    ensures { λ r. ⌜ r ≡ record { report = Report.Refused n; sent = false; console = c } ⌝ }
 {
-    match came {
-        ForConsole::Nothing => Asked::Refused(15),
-        ForConsole::Packet(p) => Asked::Is(Act::Take(ForConsole::Packet(p))),
-    }
-}
-
-fn hears(packet: &[u8]) -> Asked
-    ensures { λ r. ⌜ r ≡ consoleHears (packetRead (now (packet .entry)) .head) ⌝ }
-{
-    let head = wire::read_head(packet);
-    match head {
-        ReadHead::Refused(n) => Asked::Refused(n),
-        ReadHead::Is(h) => takes(for_console(h)),
-    }
-}
-
-// Q D S are lent the reply buffer: its length is looked at even with nothing to send.
-fn lent(room: usize, asked: Asked) -> Asked
-    ensures { λ r. ⌜ r ≡ lent Asked.Refused room asked ⌝ }
-{
-    if room == 32 {
-        asked
-    } else {
-        Asked::Refused(12)
-    }
-}
-
-fn asks(l: Letter, packet: &[u8], room: usize) -> Asked
-    ensures { λ r. ⌜ r ≡ consoleAsks l (packetRead (now (packet .entry)) .head) room ⌝ }
-{
-    match l {
-        Letter::P => Asked::Is(Act::Put),
-        Letter::Q => lent(room, Asked::Is(Act::SendNeedI)),
-        Letter::D => lent(room, Asked::Is(Act::SendData)),
-        Letter::S => lent(room, hears(packet)),
-        Letter::C => Asked::Is(Act::GoDown),
-        Letter::V => Asked::Is(Act::ComeBack),
-        Letter::O => Asked::Refused(1),
-        Letter::K => Asked::Refused(1),
-        Letter::R => Asked::Refused(1),
-        Letter::X => Asked::Refused(1),
-        Letter::Y => Asked::Refused(1),
-        Letter::L => Asked::Refused(1),
-        Letter::M => Asked::Refused(1),
-    }
-}
-
-fn letter_asks(byte: u8, packet: &[u8], room: usize) -> Asked
-    ensures { λ r. ⌜ r ≡ consoleAsked (foundOf (letter byte)) (packetRead (now (packet .entry)) .head) room ⌝ }
-{
-    let line = letters::find(byte);
-    match line {
-        Found::Nothing => Asked::Refused(1),
-        Found::Line(l) => {
-            let which = l.letter;
-            asks(which, packet, room)
-        }
+    ConsoleOutcome {
+        report: Report::Refused(n),
+        sent: false,
+        console: c,
     }
 }
 
@@ -121,65 +62,130 @@ fn send(sent: ForController, message: [u8; 16], reply: &mut [u8]) -> bool
     }
 }
 
-fn refused(n: u8, c: Console) -> ConsoleOutcome
-    ensures { λ r. ⌜ r ≡ record { report = Report.Refused n; sent = false; console = c } ⌝ }
+// What was done by an act that sends nothing; the console then holds `message`, if it holds one.
+fn done(acted: Acted, message: [u8; 16]) -> ConsoleOutcome
+    ensures { λ r. ⌜ r ≡ record { report = acted .report; sent = false; console = consoleFields (acted .after) message } ⌝ }
 {
+    let report = acted.report;
+    let end = acted.after;
     ConsoleOutcome {
-        report: Report::Refused(n),
+        report,
         sent: false,
+        console: console_of(end, message),
+    }
+}
+
+// The same of one that may send: that is written.
+fn replies(acted: Acted, message: [u8; 16], reply: &mut [u8]) -> ConsoleOutcome
+    requires { ⌜ Writable (toControllerSent (acted .sent) message) (length (now reply)) ⌝ }
+    ensures { λ r. ⌜ record { outcome = r; reply = now (reply .exit) } ≡ consoleTells acted message (now (reply .entry)) ⌝ }
+{
+    let report = acted.report;
+    let sent = acted.sent;
+    let end = acted.after;
+    let written = send(sent, message, reply);
+    ConsoleOutcome {
+        report,
+        sent: written,
+        console: console_of(end, message),
+    }
+}
+
+fn puts(c: Console, e: End, message: &[u8; 16]) -> ConsoleOutcome
+    requires { ⌜ consoleRead c ≡ ConsoleRead.Is e ⌝ }
+    requires { ⌜ length (c .message) ≡ 16 ⌝ }
+    ensures { λ r. ⌜ ((reply : List ℕ) → record { outcome = r; reply = reply } ≡ consoleActs c reply (put (now (message .entry)))) ⌝ }
+{
+    let good = ground::is_message(message);
+    let n = console::put_refusal(e, good);
+    if n != 0 {
+        return refused(n, c);
+    }
+    done(console::puts(e), *message)
+}
+
+// Q and D. They are lent the reply buffer, and change nothing of the console.
+fn sends(c: Console, e: End, sent: ForController, reply: &mut [u8]) -> ConsoleOutcome
+    requires { ⌜ Writable (toControllerSent sent (c .message)) 32 ⌝ }
+    ensures { λ r. ⌜ record { outcome = r; reply = now (reply .exit) } ≡ consoleLent c (now (reply .entry)) (consoleSends c (e .up) sent (now (reply .entry))) ⌝ }
+{
+    if reply.len() != 32 {
+        return refused(12, c);
+    }
+    let n = console::send_refusal(e, sent);
+    if n != 0 {
+        return refused(n, c);
+    }
+    let held = c.message;
+    let written = send(sent, held, reply);
+    ConsoleOutcome {
+        report: Report::Nothing,
+        sent: written,
         console: c,
     }
 }
 
-// The cells of a message are looked at by a put alone.
-fn is_good(a: Act, message: [u8; 16]) -> bool
-    ensures { λ r. ⌜ r ≡ looked a (isMessage message) ⌝ }
+// A packet in whose kind goes the other way is 15.
+fn hears(c: Console, e: End, head: Head, reply: &mut [u8]) -> ConsoleOutcome
+    requires { ⌜ consoleRead c ≡ ConsoleRead.Is e ⌝ }
+    requires { ⌜ length (c .message) ≡ 16 ⌝ }
+    requires { ⌜ numbered head ≡ true ⌝ }
+    requires { ⌜ length (now reply) ≡ 32 ⌝ }
+    ensures { λ r. ⌜ record { outcome = r; reply = now (reply .exit) } ≡ consoleTakes c (now (reply .entry)) (headForConsole head) ⌝ }
 {
-    match a {
-        Act::Put => ground::is_message(&message),
-        Act::SendNeedI => true,
-        Act::SendData => true,
-        Act::Take(_) => true,
-        Act::GoDown => true,
-        Act::ComeBack => true,
+    let came = for_console(head);
+    match came {
+        ForConsole::Nothing => refused(15, c),
+        ForConsole::Packet(p) => {
+            if e.up {
+                let held = c.message;
+                replies(
+                    console::takes_what_came(e, ForConsole::Packet(p)),
+                    held,
+                    reply,
+                )
+            } else {
+                refused(4, c)
+            }
+        }
     }
 }
 
-fn keeps(a: Act, message: [u8; 16], held: [u8; 16]) -> [u8; 16]
-    ensures { λ r. ⌜ r ≡ kept a message held ⌝ }
+// S is lent the reply buffer: its length is looked at even with nothing to send.
+fn takes(c: Console, e: End, packet: &[u8], reply: &mut [u8]) -> ConsoleOutcome
+    requires { ⌜ consoleRead c ≡ ConsoleRead.Is e ⌝ }
+    requires { ⌜ length (c .message) ≡ 16 ⌝ }
+    ensures { λ r. ⌜ record { outcome = r; reply = now (reply .exit) } ≡ consoleLent c (now (reply .entry)) (consoleHears c (now (reply .entry)) (packetRead (now (packet .entry)) .head)) ⌝ }
 {
-    match a {
-        Act::Put => message,
-        Act::SendNeedI => held,
-        Act::SendData => held,
-        Act::Take(_) => held,
-        Act::GoDown => held,
-        Act::ComeBack => held,
+    if reply.len() != 32 {
+        return refused(12, c);
+    }
+    let head = wire::read_head(packet);
+    match head {
+        ReadHead::Refused(n) => refused(n, c),
+        ReadHead::Is(h) => hears(c, e, h, reply),
     }
 }
 
-// An act that is not refused.
-fn carries_out(
-    held: [u8; 16],
-    e: End,
-    a: Act,
-    message: [u8; 16],
-    reply: &mut [u8],
-) -> ConsoleOutcome
-    requires { ⌜ Writable (Option·map toControllerPacket (consoleActed e held a message .sent)) (length (now reply)) ⌝ }
-    ensures { λ r. ⌜ record { outcome = r; reply = now (reply .exit) } ≡ consoleTold (consoleActed e held a message) (now (reply .entry)) ⌝ }
+fn goes_down(c: Console, e: End) -> ConsoleOutcome
+    requires { ⌜ consoleRead c ≡ ConsoleRead.Is e ⌝ }
+    requires { ⌜ length (c .message) ≡ 16 ⌝ }
+    ensures { λ r. ⌜ ((reply : List ℕ) → record { outcome = r; reply = reply } ≡ consoleActs c reply ConsoleAct.go-down) ⌝ }
 {
-    let after = keeps(a, message, held);
-    let done = ends::console::acts(e, a);
-    let report = done.report;
-    let sent = done.sent;
-    let end = done.after;
-    let written = send(sent, after, reply);
-    ConsoleOutcome {
-        report,
-        sent: written,
-        console: console_of(end, after),
+    let held = c.message;
+    done(console::goes_down(e), held)
+}
+
+fn comes_back(c: Console, e: End) -> ConsoleOutcome
+    requires { ⌜ consoleRead c ≡ ConsoleRead.Is e ⌝ }
+    requires { ⌜ length (c .message) ≡ 16 ⌝ }
+    ensures { λ r. ⌜ ((reply : List ℕ) → record { outcome = r; reply = reply } ≡ consoleActs c reply ConsoleAct.come-back) ⌝ }
+{
+    if e.up {
+        return refused(5, c);
     }
+    let held = c.message;
+    done(console::comes_back(e), held)
 }
 
 // What a console's type says of its message; there is nothing to run.
@@ -187,42 +193,56 @@ fn sixteen(c: Console)
     ensures { λ _. ⌜ length (c .message) ≡ 16 ⌝ }
 {}
 
-// An act asked of a console that is well formed.
-fn does(c: Console, e: End, a: Act, message: [u8; 16], reply: &mut [u8]) -> ConsoleOutcome
-    requires { ⌜ consoleRead c ≡ ConsoleRead.Is e ⌝ }
-    requires { ⌜ Ready a (length (now reply)) ⌝ }
-    ensures { λ r. ⌜ record { outcome = r; reply = now (reply .exit) } ≡ consoleTold (consoleStepped c a message) (now (reply .entry)) ⌝ }
-{
-    sixteen(c);
-    let held = c.message;
-    let good = is_good(a, message);
-    let n = ends::console::refuses(e, a, good);
-    if n != 0 {
-        return refused(n, c);
-    }
-    carries_out(held, e, a, message, reply)
-}
-
-// P Q D S C V of a console run alone. What is sent is written to `reply`.
-pub fn step(
+// What a well-formed console is asked.
+fn does(
     c: Console,
-    letter: u8,
-    message: [u8; 16],
+    e: End,
+    ask: ConsoleAsk,
+    message: &[u8; 16],
     packet: &[u8],
     reply: &mut [u8],
 ) -> ConsoleOutcome
-    ensures { λ r. ⌜ record { outcome = r; reply = now (reply .exit) } ≡ consoleAlone c letter message (now (packet .entry)) (now (reply .entry)) ⌝ }
+    requires { ⌜ consoleRead c ≡ ConsoleRead.Is e ⌝ }
+    ensures { λ r. ⌜ record { outcome = r; reply = now (reply .exit) } ≡ consoleAsked c (now (reply .entry)) (now (message .entry)) (now (packet .entry)) (consoleAskMeans ask) ⌝ }
 {
-    let asked = letter_asks(letter, packet, reply.len());
-    let read = read_console(c);
-    match asked {
-        Asked::Refused(n) => match read {
-            ConsoleRead::IllFormed => refused(early(n, false), c),
-            ConsoleRead::Is(_) => refused(early(n, true), c),
-        },
-        Asked::Is(a) => match read {
-            ConsoleRead::IllFormed => refused(2, c),
-            ConsoleRead::Is(e) => does(c, e, a, message, reply),
-        },
+    sixteen(c);
+    let mode = e.mode;
+    match ask {
+        ConsoleAsk::Put => puts(c, e, message),
+        ConsoleAsk::SendNeedI => sends(c, e, console::needi_sent(mode), reply),
+        ConsoleAsk::SendData => sends(c, e, console::data_sent(mode), reply),
+        ConsoleAsk::Take => takes(c, e, packet, reply),
+        ConsoleAsk::GoDown => goes_down(c, e),
+        ConsoleAsk::ComeBack => comes_back(c, e),
+    }
+}
+
+// P Q D S C V of a console run alone; any other letter is 1. What is sent is written to `reply`.
+pub fn step(
+    c: Console,
+    letter: u8,
+    message: &[u8; 16],
+    packet: &[u8],
+    reply: &mut [u8],
+) -> ConsoleOutcome
+    ensures { λ r. ⌜ record { outcome = r; reply = now (reply .exit) } ≡ consoleAlone c letter (now (message .entry)) (now (packet .entry)) (now (reply .entry)) ⌝ }
+{
+    let found = letters::find(letter);
+    match found {
+        Found::Nothing => refused(1, c),
+        Found::Line(line) => {
+            let asks = line.asks;
+            match asks {
+                Asks::Console(ask) => {
+                    let read = read_console(c);
+                    match read {
+                        ConsoleRead::IllFormed => refused(2, c),
+                        ConsoleRead::Is(e) => does(c, e, ask, message, packet, reply),
+                    }
+                }
+                Asks::Controller(_) => refused(1, c),
+                Asks::NoEnd => refused(1, c),
+            }
+        }
     }
 }

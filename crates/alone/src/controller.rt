@@ -1,48 +1,37 @@
 // A controller run alone.
-use crate::early;
 use ends::ForConsole;
 use ends::ForController;
 use ends::Report;
-use ends::beside::delivers;
 use ends::beside::for_controller;
 use ends::beside::to_console;
-use ends::controller::Act;
+use ends::controller;
+use ends::controller::Acted;
 use ends::controller::End;
 use ends::fields::Controller;
 use ends::fields::ControllerRead;
 use ends::fields::controller_of;
 use ends::fields::read_controller;
+use letters::Asks;
+use letters::ControllerAsk;
 use letters::Found;
-use letters::Letter;
+use wire::Head;
 use wire::ReadHead;
 ghost use mathlib.Core.Path.{_≡_};
-ghost use mathlib.Core.Bool.{not, false};
-ghost use mathlib.Core.Option.{Option·map};
-ghost use lib.ListN.{length};
+ghost use mathlib.Core.Bool.{not, true, false};
+ghost use mathlib.Core.List.{List};
+ghost use Prim.Native.Nat.{ℕ};
+ghost use lib.ListN.{length, drop};
 ghost use Rattle.ground.specs.Cell.{spaces};
-ghost use Rattle.wire.specs.Packet.{packetRead};
-ghost use Rattle.protocol.specs.Ends.{absent};
-ghost use Rattle.protocol.specs.Letters.{letter};
-ghost use Rattle.letters.specs.Lines.{foundOf};
-ghost use Rattle.ends.specs.Fields.{controllerRead};
+ghost use Rattle.wire.specs.Packet.{numbered, packetRead};
+ghost use Rattle.protocol.specs.Ends.{absent, ControllerAct};
+ghost use Rattle.letters.specs.Lines.{controllerAskMeans};
+ghost use Rattle.ends.specs.Fields.{controllerRead, controllerFields};
+ghost use Rattle.ends.specs.InRules.{deliveredBeside};
 ghost use Rattle.ends.specs.Means.{forConsole};
-ghost use Rattle.alone.specs.Alone.{Writable, replied, lent};
-ghost use Rattle.alone.specs.ControllerAlone.{bare, refusing, controllerTakes, controllerHears, controllerAsks, controllerAsked};
-ghost use Rattle.ends.specs.Packets.{toConsolePacket, toConsoleSent};
-ghost use Rattle.alone.specs.ControllerAlone.{controllerStepped, controllerTold, controllerAlone};
-ghost use Rattle.alone.specs.ControllerWithin.{Ready};
-ghost use Rattle.ends.specs.InRules.{controllerActed};
-
-enum Asked {
-    Refused(u8),
-    Is(Act),
-}
-
-// What is asked, beside the message of the packet in; 16 spaces where none is taken in.
-struct Request {
-    asked: Asked,
-    message: [u8; 16],
-}
+ghost use Rattle.ends.specs.Packets.{headForController, toConsoleSent};
+ghost use Rattle.alone.specs.Alone.{Writable, replied};
+ghost use Rattle.alone.specs.ControllerAlone.{controllerActs, controllerTakes, controllerHears, controllerLent, controllerAsked, controllerAlone};
+ghost use Rattle.alone.specs.ControllerWithin.{controllerTells, controllerSends};
 
 // The message is the delivered one, 16 spaces with any other report.
 pub struct ControllerOutcome {
@@ -52,84 +41,14 @@ pub struct ControllerOutcome {
     pub controller: Controller,
 }
 
-fn takes(came: ForController) -> Asked
-    ensures { λ r. ⌜ r ≡ controllerTakes came ⌝ }
+fn refused(n: u8, c: Controller) -> ControllerOutcome
+    ensures { λ r. ⌜ r ≡ record { report = Report.Refused n; message = spaces; sent = false; controller = c } ⌝ }
 {
-    match came {
-        ForController::Nothing => Asked::Refused(15),
-        ForController::Packet(p) => Asked::Is(Act::Take(ForController::Packet(p))),
-    }
-}
-
-fn hears(packet: &[u8]) -> Request
-    ensures { λ r. ⌜ r ≡ controllerHears (packetRead (now (packet .entry))) ⌝ }
-{
-    let read = wire::read_packet(packet);
-    let message = read.message;
-    let head = read.head;
-    match head {
-        ReadHead::Refused(n) => Request {
-            asked: Asked::Refused(n),
-            message,
-        },
-        ReadHead::Is(h) => Request {
-            asked: takes(for_controller(h)),
-            message,
-        },
-    }
-}
-
-// No packet is taken in.
-fn bare(asked: Asked) -> Request
-    ensures { λ r. ⌜ r ≡ bare asked ⌝ }
-{
-    Request {
-        asked,
+    ControllerOutcome {
+        report: Report::Refused(n),
         message: [0x20; 16],
-    }
-}
-
-// O K R are lent the reply buffer: its length is looked at even with nothing to send.
-fn lent(room: usize, request: Request) -> Request
-    ensures { λ r. ⌜ r ≡ lent refusing room request ⌝ }
-{
-    if room == 32 {
-        request
-    } else {
-        bare(Asked::Refused(12))
-    }
-}
-
-fn asks(l: Letter, packet: &[u8], room: usize) -> Request
-    ensures { λ r. ⌜ r ≡ controllerAsks l (packetRead (now (packet .entry))) room ⌝ }
-{
-    match l {
-        Letter::P => bare(Asked::Refused(1)),
-        Letter::Q => bare(Asked::Refused(1)),
-        Letter::D => bare(Asked::Refused(1)),
-        Letter::S => bare(Asked::Refused(1)),
-        Letter::C => bare(Asked::Refused(1)),
-        Letter::V => bare(Asked::Refused(1)),
-        Letter::O => lent(room, bare(Asked::Is(Act::SendOffer))),
-        Letter::K => lent(room, bare(Asked::Is(Act::SendOk))),
-        Letter::R => lent(room, hears(packet)),
-        Letter::X => bare(Asked::Is(Act::GoDown)),
-        Letter::Y => bare(Asked::Is(Act::ComeBack)),
-        Letter::L => bare(Asked::Refused(1)),
-        Letter::M => bare(Asked::Refused(1)),
-    }
-}
-
-fn letter_asks(byte: u8, packet: &[u8], room: usize) -> Request
-    ensures { λ r. ⌜ r ≡ controllerAsked (foundOf (letter byte)) (packetRead (now (packet .entry))) room ⌝ }
-{
-    let line = letters::find(byte);
-    match line {
-        Found::Nothing => bare(Asked::Refused(1)),
-        Found::Line(l) => {
-            let which = l.letter;
-            asks(which, packet, room)
-        }
+        sent: false,
+        controller: c,
     }
 }
 
@@ -148,64 +67,182 @@ fn send(sent: ForConsole, reply: &mut [u8]) -> bool
     }
 }
 
-fn refused(n: u8, c: Controller) -> ControllerOutcome
-    ensures { λ r. ⌜ r ≡ record { report = Report.Refused n; message = spaces; sent = false; controller = c } ⌝ }
+// What was done by an act that sends and delivers nothing.
+fn done(acted: Acted) -> ControllerOutcome
+    ensures { λ r. ⌜ r ≡ record { report = acted .report; message = spaces; sent = false; controller = controllerFields (acted .after) } ⌝ }
 {
+    let report = acted.report;
+    let end = acted.after;
     ControllerOutcome {
-        report: Report::Refused(n),
+        report,
         message: [0x20; 16],
         sent: false,
-        controller: c,
+        controller: controller_of(end),
     }
 }
 
-// An act that is not refused.
-fn carries_out(e: End, a: Act, message: [u8; 16], reply: &mut [u8]) -> ControllerOutcome
-    requires { ⌜ Writable (Option·map toConsolePacket (controllerActed e a message .sent)) (length (now reply)) ⌝ }
-    ensures { λ r. ⌜ record { outcome = r; reply = now (reply .exit) } ≡ controllerTold (controllerActed e a message) (now (reply .entry)) ⌝ }
+// The message of a packet that was read.
+fn message_at(packet: &[u8]) -> [u8; 16]
+    requires { ⌜ length (now packet) ≡ 32 ⌝ }
+    ensures { λ r. ⌜ r ≡ drop 16 (now (packet .entry)) ⌝ }
 {
-    let done = ends::controller::acts(e, a);
-    let report = done.report;
-    let sent = done.sent;
-    let end = done.after;
+    let mut m = [0; 16];
+    bytes::copy(&packet[16..32], &mut m);
+    m
+}
+
+// It is copied where it is delivered alone.
+fn delivers(report: Report, packet: &[u8]) -> [u8; 16]
+    requires { ⌜ length (now packet) ≡ 32 ⌝ }
+    ensures { λ r. ⌜ r ≡ deliveredBeside report (drop 16 (now (packet .entry))) ⌝ }
+{
+    match report {
+        Report::Nothing => [0x20; 16],
+        Report::Delivered => message_at(packet),
+        Report::Ok => [0x20; 16],
+        Report::Lost => [0x20; 16],
+        Report::Refused(_) => [0x20; 16],
+    }
+}
+
+// What was done with a packet in: the message that it delivers is told, and what it sends is written.
+fn replies(acted: Acted, packet: &[u8], reply: &mut [u8]) -> ControllerOutcome
+    requires { ⌜ length (now packet) ≡ 32 ⌝ }
+    requires { ⌜ Writable (toConsoleSent (acted .sent)) (length (now reply)) ⌝ }
+    ensures { λ r. ⌜ record { outcome = r; reply = now (reply .exit) } ≡ controllerTells acted (drop 16 (now (packet .entry))) (now (reply .entry)) ⌝ }
+{
+    let report = acted.report;
+    let sent = acted.sent;
+    let end = acted.after;
+    let message = delivers(report, packet);
     let written = send(sent, reply);
     ControllerOutcome {
         report,
-        message: delivers(report, message),
+        message,
         sent: written,
         controller: controller_of(end),
     }
 }
 
-// An act asked of a controller that is well formed.
-fn does(c: Controller, e: End, a: Act, message: [u8; 16], reply: &mut [u8]) -> ControllerOutcome
-    requires { ⌜ controllerRead c ≡ ControllerRead.Is e ⌝ }
-    requires { ⌜ Ready a (length (now reply)) ⌝ }
-    ensures { λ r. ⌜ record { outcome = r; reply = now (reply .exit) } ≡ controllerTold (controllerStepped c a message) (now (reply .entry)) ⌝ }
+// O and K. They are lent the reply buffer, and change nothing of the controller.
+fn sends(c: Controller, e: End, sent: ForConsole, reply: &mut [u8]) -> ControllerOutcome
+    requires { ⌜ Writable (toConsoleSent sent) 32 ⌝ }
+    ensures { λ r. ⌜ record { outcome = r; reply = now (reply .exit) } ≡ controllerLent c (now (reply .entry)) (controllerSends c (e .up) sent (now (reply .entry))) ⌝ }
 {
-    let n = ends::controller::refuses(e, a);
+    if reply.len() != 32 {
+        return refused(12, c);
+    }
+    let n = controller::send_refusal(e, sent);
     if n != 0 {
         return refused(n, c);
     }
-    carries_out(e, a, message, reply)
+    let written = send(sent, reply);
+    ControllerOutcome {
+        report: Report::Nothing,
+        message: [0x20; 16],
+        sent: written,
+        controller: c,
+    }
 }
 
-// O K R X Y of a controller run alone. What is sent is written to `reply`.
+// A packet in whose kind goes the other way is 15.
+fn hears(c: Controller, e: End, head: Head, packet: &[u8], reply: &mut [u8]) -> ControllerOutcome
+    requires { ⌜ controllerRead c ≡ ControllerRead.Is e ⌝ }
+    requires { ⌜ numbered head ≡ true ⌝ }
+    requires { ⌜ length (now packet) ≡ 32 ⌝ }
+    requires { ⌜ length (now reply) ≡ 32 ⌝ }
+    ensures { λ r. ⌜ record { outcome = r; reply = now (reply .exit) } ≡ controllerTakes c (now (reply .entry)) (drop 16 (now (packet .entry))) (headForController head) ⌝ }
+{
+    let came = for_controller(head);
+    match came {
+        ForController::Nothing => refused(15, c),
+        ForController::Packet(p) => {
+            let n = controller::take_refusal(e, ForController::Packet(p));
+            if n != 0 {
+                return refused(n, c);
+            }
+            replies(
+                controller::takes_what_came(e, ForController::Packet(p)),
+                packet,
+                reply,
+            )
+        }
+    }
+}
+
+// R is lent the reply buffer: its length is looked at even with nothing to send.
+fn takes(c: Controller, e: End, packet: &[u8], reply: &mut [u8]) -> ControllerOutcome
+    requires { ⌜ controllerRead c ≡ ControllerRead.Is e ⌝ }
+    ensures { λ r. ⌜ record { outcome = r; reply = now (reply .exit) } ≡ controllerLent c (now (reply .entry)) (controllerHears c (now (reply .entry)) (packetRead (now (packet .entry)))) ⌝ }
+{
+    if reply.len() != 32 {
+        return refused(12, c);
+    }
+    let head = wire::read_head(packet);
+    match head {
+        ReadHead::Refused(n) => refused(n, c),
+        ReadHead::Is(h) => hears(c, e, h, packet, reply),
+    }
+}
+
+fn goes_down(c: Controller, e: End) -> ControllerOutcome
+    requires { ⌜ controllerRead c ≡ ControllerRead.Is e ⌝ }
+    ensures { λ r. ⌜ ((reply : List ℕ) → record { outcome = r; reply = reply } ≡ controllerActs c reply ControllerAct.go-down) ⌝ }
+{
+    done(controller::goes_down(e))
+}
+
+fn comes_back(c: Controller, e: End) -> ControllerOutcome
+    requires { ⌜ controllerRead c ≡ ControllerRead.Is e ⌝ }
+    ensures { λ r. ⌜ ((reply : List ℕ) → record { outcome = r; reply = reply } ≡ controllerActs c reply ControllerAct.come-back) ⌝ }
+{
+    if e.up {
+        return refused(5, c);
+    }
+    done(controller::comes_back(e))
+}
+
+// What a well-formed controller is asked.
+fn does(
+    c: Controller,
+    e: End,
+    ask: ControllerAsk,
+    packet: &[u8],
+    reply: &mut [u8],
+) -> ControllerOutcome
+    requires { ⌜ controllerRead c ≡ ControllerRead.Is e ⌝ }
+    ensures { λ r. ⌜ record { outcome = r; reply = now (reply .exit) } ≡ controllerAsked c (now (reply .entry)) (now (packet .entry)) (controllerAskMeans ask) ⌝ }
+{
+    let mode = e.mode;
+    match ask {
+        ControllerAsk::SendOffer => sends(c, e, controller::offer_sent(mode), reply),
+        ControllerAsk::SendOk => sends(c, e, controller::ok_sent(mode), reply),
+        ControllerAsk::Take => takes(c, e, packet, reply),
+        ControllerAsk::GoDown => goes_down(c, e),
+        ControllerAsk::ComeBack => comes_back(c, e),
+    }
+}
+
+// O K R X Y of a controller run alone; any other letter is 1. What is sent is written to `reply`.
 pub fn step(c: Controller, letter: u8, packet: &[u8], reply: &mut [u8]) -> ControllerOutcome
     ensures { λ r. ⌜ record { outcome = r; reply = now (reply .exit) } ≡ controllerAlone c letter (now (packet .entry)) (now (reply .entry)) ⌝ }
 {
-    let request = letter_asks(letter, packet, reply.len());
-    let message = request.message;
-    let asked = request.asked;
-    let read = read_controller(c);
-    match asked {
-        Asked::Refused(n) => match read {
-            ControllerRead::IllFormed => refused(early(n, false), c),
-            ControllerRead::Is(_) => refused(early(n, true), c),
-        },
-        Asked::Is(a) => match read {
-            ControllerRead::IllFormed => refused(2, c),
-            ControllerRead::Is(e) => does(c, e, a, message, reply),
-        },
+    let found = letters::find(letter);
+    match found {
+        Found::Nothing => refused(1, c),
+        Found::Line(line) => {
+            let asks = line.asks;
+            match asks {
+                Asks::Controller(ask) => {
+                    let read = read_controller(c);
+                    match read {
+                        ControllerRead::IllFormed => refused(2, c),
+                        ControllerRead::Is(e) => does(c, e, ask, packet, reply),
+                    }
+                }
+                Asks::Console(_) => refused(1, c),
+                Asks::NoEnd => refused(1, c),
+            }
+        }
     }
 }

@@ -6,7 +6,7 @@ use mathlib.Core.Option.{Option, none, some}
 use native.Mathlib.Numerals.{add-one}
 use lib.Dec.{eqb}
 use Rattle.ground.specs.Choice.{if_then_else_}
-use Rattle.protocol.specs.Supply.{counted, next-counted}
+use Rattle.protocol.specs.Supply.{numbering, next-counted}
 use Rattle.protocol.proofs.Lists.{if-holds}
 use Rattle.protocol.specs.Ends as rules
 use Rattle.protocol.specs.Ends.{controller-acts, controller-turn, controller-takes, end-after, numbers-after, up-after, ControllerAct, needI, order, done, same, offer-sent, ok-sent}
@@ -40,28 +40,28 @@ same-end : (e : End) → e ≡ record { used = e .used; mode = modeBack (mode (e
 same-end e = λ i. record { used = e .used; mode = same-mode (e .mode) i; up = e .up }
 
 -- an end that takes nothing
-pub takes-none : {x : Acted} (e : End) → x ≡ only-sent for-console.Nothing e → x ≡ acted (controller-acts counted (end e) (ControllerAct.take none))
+pub takes-none : {x : Acted} (e : End) → x ≡ only-sent for-console.Nothing e → x ≡ acted (controller-acts numbering (end e) (ControllerAct.take none))
 unfolding controller-acts controller-turn end-after numbers-after up-after
 takes-none e h = h ∙ λ i. only-sent for-console.Nothing (same-end e i)
 
-pub goes-down : {x : Acted} (e : End) → x ≡ only-sent for-console.Nothing (record { used = e .used; mode = e .mode; up = false }) → x ≡ acted (controller-acts counted (end e) ControllerAct.go-down)
+pub goes-down : {x : Acted} (e : End) → x ≡ only-sent for-console.Nothing (record { used = e .used; mode = e .mode; up = false }) → x ≡ acted (controller-acts numbering (end e) ControllerAct.go-down)
 unfolding controller-acts controller-turn end-after numbers-after up-after
 goes-down e h = h ∙ λ i. only-sent for-console.Nothing (same-end (record { used = e .used; mode = e .mode; up = false }) i)
 
 -- an end that sends what its mode has for it
 module _ {x : Acted} {s : ForConsole} {a : Act} (e : End) where
-  pub sends-offer : a ≡ SendOffer → s ≡ forConsoleBack (offer-sent (mode (e .mode))) → x ≡ only-sent s e → x ≡ acted (controller-acts counted (end e) (act a))
+  pub sends-offer : a ≡ SendOffer → s ≡ forConsoleBack (offer-sent (mode (e .mode))) → x ≡ only-sent s e → x ≡ acted (controller-acts numbering (end e) (act a))
   unfolding controller-acts controller-turn end-after numbers-after up-after
   sends-offer f g h = rw f (h ∙ λ i. only-sent (g i) (same-end e i))
 
-  pub sends-ok : a ≡ SendOk → s ≡ forConsoleBack (ok-sent (mode (e .mode))) → x ≡ only-sent s e → x ≡ acted (controller-acts counted (end e) (act a))
+  pub sends-ok : a ≡ SendOk → s ≡ forConsoleBack (ok-sent (mode (e .mode))) → x ≡ only-sent s e → x ≡ acted (controller-acts numbering (end e) (act a))
   unfolding controller-acts controller-turn end-after numbers-after up-after
   sends-ok f g h = rw f (h ∙ λ i. only-sent (g i) (same-end e i))
 
 -- ## Taking a packet
 
 abbrev taken : End → rules.ToController Beside → Acted
-taken e p = acted (controller-acts counted (end e) (ControllerAct.take (some p)))
+taken e p = acted (controller-acts numbering (end e) (ControllerAct.take (some p)))
 
 -- data and done take no number
 abbrev NoNumber : rules.Turn Beside rules.ControllerMode rules.ToConsole → Type 0
@@ -92,7 +92,7 @@ without-number e p n g =
       sent = g i .sent;
       after =
           record {
-            used = record { 0 = numbers-after counted same (sym n i) (e .used .0) };
+            used = record { 0 = numbers-after numbering same (sym n i) (e .used .0) };
             mode = g i .mode;
             up = e .up;
           };
@@ -112,7 +112,7 @@ unfolding controller-acts controller-turn end-after numbers-after up-after
 needI-dropped e n d h =
     h
     ∙ (λ i. only-sent for-console.Nothing (same-end e i))
-    ∙ λ i. acted (record { report = sym d i .report; sent = sym d i .sent; after = end-after counted same (end e) (sym d i) })
+    ∙ λ i. acted (record { report = sym d i .report; sent = sym d i .sent; after = end-after numbering same (end e) (sym d i) })
 
 module _ {x : Acted} (e : End) (own : J) where
   pub needI-spent : {s : Bool} → e .mode ≡ Idle → s ≡ eqb (e .used .0) 4294967295 → s ≡ true → x ≡ only-sent for-console.Nothing e → x ≡ taken e (needI (own .0))

@@ -9,7 +9,7 @@ use borrow.Author.Tests.{ltb-true, ltb-false, le-leb, lt-leb}
 use Rattle.ground.specs.Choice.{if_then_else_}
 use Rattle.ground.proofs.Tests.{by-test}
 use Rattle.ground.specs.First.{first, refusal, applies}
-use Rattle.protocol.specs.Supply.{counted}
+use Rattle.protocol.specs.Supply.{numbering}
 use Rattle.protocol.specs.Ends as rules
 use Rattle.protocol.specs.Ends.{down-4, mode-6, controller-rules, ControllerAct, offer-sent, ok-sent, unknown}
 use Rattle.ends.specs.Means.{toController, forController, forConsole, forConsoleBack}
@@ -33,11 +33,11 @@ module _ {n : ℕ} {s : ForConsole} (e : End) where
   rules-sent : (p : Option rules.ToConsole) → s ≡ forConsoleBack p → n ≡ first (down-4 (e .up) ∷ mode-6 (forConsole s) ∷ []) → n ≡ first (down-4 (e .up) ∷ mode-6 p ∷ [])
   rules-sent p g h = h ∙ ap (λ (q : Option rules.ToConsole). first (down-4 (e .up) ∷ mode-6 q ∷ [])) (ap forConsole g ∙ same-for-console p)
 
-  pub refuses-offer : {a : Act} → a ≡ SendOffer → s ≡ forConsoleBack (offer-sent (mode (e .mode))) → n ≡ first (down-4 (e .up) ∷ mode-6 (forConsole s) ∷ []) → n ≡ refusal (controller-rules counted (end e) (act a))
+  pub refuses-offer : {a : Act} → a ≡ SendOffer → s ≡ forConsoleBack (offer-sent (mode (e .mode))) → n ≡ first (down-4 (e .up) ∷ mode-6 (forConsole s) ∷ []) → n ≡ refusal (controller-rules numbering (end e) (act a))
   unfolding refusal first applies if_then_else_ controller-rules
   refuses-offer f g h = rw f (rules-sent (offer-sent (mode (e .mode))) g h)
 
-  pub refuses-ok : {a : Act} → a ≡ SendOk → s ≡ forConsoleBack (ok-sent (mode (e .mode))) → n ≡ first (down-4 (e .up) ∷ mode-6 (forConsole s) ∷ []) → n ≡ refusal (controller-rules counted (end e) (act a))
+  pub refuses-ok : {a : Act} → a ≡ SendOk → s ≡ forConsoleBack (ok-sent (mode (e .mode))) → n ≡ first (down-4 (e .up) ∷ mode-6 (forConsole s) ∷ []) → n ≡ refusal (controller-rules numbering (end e) (act a))
   unfolding refusal first applies if_then_else_ controller-rules
   refuses-ok f g h = rw f (rules-sent (ok-sent (mode (e .mode))) g h)
 
@@ -46,7 +46,7 @@ pub above : (a b : ℕ) → ltb a b ≡ not (leb b a)
 above a b = by-test (ltb a b) (λ t. rw (t, lt-leb b a (ltb-true a b t))) (λ f. rw (f, le-leb b a (ltb-false a b f)))
 
 abbrev take-refused : End → ForController → ℕ
-take-refused e p = refusal (controller-rules counted (end e) (ControllerAct.take (forController p)))
+take-refused e p = refusal (controller-rules numbering (end e) (ControllerAct.take (forController p)))
 
 -- 4 comes before 7, whatever came
 pub take-4 : (e : End) (p : ForController) → not (e .up) ≡ true → 4 ≡ take-refused e p
@@ -71,15 +71,15 @@ pub ruleset take-refusals = (take-4, take-nothing, take-7, take-0)
 
 -- the refusals that ask only whether the end is up
 module _ {a : Act} (e : End) where
-  pub down-0 : a ≡ GoDown → 0 ≡ refusal (controller-rules counted (end e) (act a))
+  pub down-0 : a ≡ GoDown → 0 ≡ refusal (controller-rules numbering (end e) (act a))
   unfolding refusal first applies if_then_else_ controller-rules
   down-0 f = rw f
 
-  pub back-5 : a ≡ ComeBack → e .up ≡ true → 5 ≡ refusal (controller-rules counted (end e) (act a))
+  pub back-5 : a ≡ ComeBack → e .up ≡ true → 5 ≡ refusal (controller-rules numbering (end e) (act a))
   unfolding refusal first applies if_then_else_ controller-rules
   back-5 f u = rw (f, u)
 
-  pub back-0 : a ≡ ComeBack → e .up ≡ false → 0 ≡ refusal (controller-rules counted (end e) (act a))
+  pub back-0 : a ≡ ComeBack → e .up ≡ false → 0 ≡ refusal (controller-rules numbering (end e) (act a))
   unfolding refusal first applies if_then_else_ controller-rules
   back-0 f u = rw (f, u)
 

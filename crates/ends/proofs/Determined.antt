@@ -43,6 +43,36 @@ use Rattle.ends.proofs.fields.downed_console.Kinds as downed-console-ki
 use Rattle.ends.proofs.fields.downed_console.Reads as downed-console
 use Rattle.ends.proofs.fields.downed_controller.Kinds as downed-controller-kinds
 use Rattle.ends.proofs.fields.downed_controller.Reads as downed-controller
+use Rattle.ends.proofs.console.puts.Kinds as console-puts-kinds
+use Rattle.ends.proofs.console.puts.Reads as console-puts
+use Rattle.ends.proofs.console.needi_sent.Kinds as needi-sent-kinds
+use Rattle.ends.proofs.console.needi_sent.Reads as needi-sent
+use Rattle.ends.proofs.console.data_sent.Kinds as data-sent-kinds
+use Rattle.ends.proofs.console.data_sent.Reads as data-sent
+use Rattle.ends.proofs.console.takes_what_came.Kinds as console-takes-what-came-kinds
+use Rattle.ends.proofs.console.takes_what_came.Reads as console-takes-what-came
+use Rattle.ends.proofs.console.goes_down.Kinds as console-goes-down-kinds
+use Rattle.ends.proofs.console.goes_down.Reads as console-goes-down
+use Rattle.ends.proofs.console.comes_back.Kinds as console-comes-back-kinds
+use Rattle.ends.proofs.console.comes_back.Reads as console-comes-back
+use Rattle.ends.proofs.console.put_refusal.Kinds as put-refusal-kinds
+use Rattle.ends.proofs.console.put_refusal.Reads as put-refusal
+use Rattle.ends.proofs.console.send_refusal.Kinds as console-send-refusal-kinds
+use Rattle.ends.proofs.console.send_refusal.Reads as console-send-refusal
+use Rattle.ends.proofs.controller.offer_sent.Kinds as offer-sent-kinds
+use Rattle.ends.proofs.controller.offer_sent.Reads as offer-sent
+use Rattle.ends.proofs.controller.ok_sent.Kinds as ok-sent-kinds
+use Rattle.ends.proofs.controller.ok_sent.Reads as ok-sent
+use Rattle.ends.proofs.controller.takes_what_came.Kinds as controller-takes-what-came-kinds
+use Rattle.ends.proofs.controller.takes_what_came.Reads as controller-takes-what-came
+use Rattle.ends.proofs.controller.goes_down.Kinds as controller-goes-down-kinds
+use Rattle.ends.proofs.controller.goes_down.Reads as controller-goes-down
+use Rattle.ends.proofs.controller.comes_back.Kinds as controller-comes-back-kinds
+use Rattle.ends.proofs.controller.comes_back.Reads as controller-comes-back
+use Rattle.ends.proofs.controller.take_refusal.Kinds as take-refusal-kinds
+use Rattle.ends.proofs.controller.take_refusal.Reads as take-refusal
+use Rattle.ends.proofs.controller.send_refusal.Kinds as controller-send-refusal-kinds
+use Rattle.ends.proofs.controller.send_refusal.Reads as controller-send-refusal
 
 pub console-acts-determined : Determined console-acts-kinds.ps console-acts-kinds.r console-acts.Post
 console-acts-determined κs a x y s t p q = p ∙ sym q
@@ -106,3 +136,50 @@ for-console-determined κs a x y s t p q = p .0 ∙ sym (q .0)
 
 pub delivers-determined : Determined delivers-kinds.ps delivers-kinds.r delivers.Post
 delivers-determined κs a x y s t p q = p ∙ sym q
+
+-- ## Each act's own functions
+
+pub console-puts-determined : Determined console-puts-kinds.ps console-puts-kinds.r console-puts.Post
+console-puts-determined κs a x y s t p q = p ∙ sym q
+
+pub needi-sent-determined : Determined needi-sent-kinds.ps needi-sent-kinds.r needi-sent.Post
+needi-sent-determined κs a x y s t p q = p ∙ sym q
+
+pub data-sent-determined : Determined data-sent-kinds.ps data-sent-kinds.r data-sent.Post
+data-sent-determined κs a x y s t p q = p ∙ sym q
+
+pub console-takes-what-came-determined : Determined console-takes-what-came-kinds.ps console-takes-what-came-kinds.r console-takes-what-came.Post
+console-takes-what-came-determined κs a x y s t p q = p ∙ sym q
+
+pub console-goes-down-determined : Determined console-goes-down-kinds.ps console-goes-down-kinds.r console-goes-down.Post
+console-goes-down-determined κs a x y s t p q = p ∙ sym q
+
+pub console-comes-back-determined : Determined console-comes-back-kinds.ps console-comes-back-kinds.r console-comes-back.Post
+console-comes-back-determined κs a x y s t p q = p ∙ sym q
+
+pub put-refusal-determined : Determined put-refusal-kinds.ps put-refusal-kinds.r put-refusal.Post
+put-refusal-determined κs a x y s t p q = p ∙ sym q
+
+pub console-send-refusal-determined : Determined console-send-refusal-kinds.ps console-send-refusal-kinds.r console-send-refusal.Post
+console-send-refusal-determined κs a x y s t p q = p ∙ sym q
+
+pub offer-sent-determined : Determined offer-sent-kinds.ps offer-sent-kinds.r offer-sent.Post
+offer-sent-determined κs a x y s t p q = p ∙ sym q
+
+pub ok-sent-determined : Determined ok-sent-kinds.ps ok-sent-kinds.r ok-sent.Post
+ok-sent-determined κs a x y s t p q = p ∙ sym q
+
+pub controller-takes-what-came-determined : Determined controller-takes-what-came-kinds.ps controller-takes-what-came-kinds.r controller-takes-what-came.Post
+controller-takes-what-came-determined κs a x y s t p q = p ∙ sym q
+
+pub controller-goes-down-determined : Determined controller-goes-down-kinds.ps controller-goes-down-kinds.r controller-goes-down.Post
+controller-goes-down-determined κs a x y s t p q = p ∙ sym q
+
+pub controller-comes-back-determined : Determined controller-comes-back-kinds.ps controller-comes-back-kinds.r controller-comes-back.Post
+controller-comes-back-determined κs a x y s t p q = p ∙ sym q
+
+pub take-refusal-determined : Determined take-refusal-kinds.ps take-refusal-kinds.r take-refusal.Post
+take-refusal-determined κs a x y s t p q = p ∙ sym q
+
+pub controller-send-refusal-determined : Determined controller-send-refusal-kinds.ps controller-send-refusal-kinds.r controller-send-refusal.Post
+controller-send-refusal-determined κs a x y s t p q = p ∙ sym q

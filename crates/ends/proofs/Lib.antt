@@ -13,3 +13,4 @@ pub mod Telling
 pub mod WrongKinds
 pub mod Wrong
 pub mod WrongActs
+pub mod WrongEach

@@ -13,7 +13,7 @@ use Rattle.wire.specs.declared.Head.the-variants as head
 use Rattle.wire.specs.declared.I.{I}
 use Rattle.wire.specs.declared.J.{J}
 use Rattle.wire.specs.declared.Packet.{Packet}
-use Rattle.protocol.specs.Supply.{counted}
+use Rattle.protocol.specs.Supply.{numbering}
 use Rattle.protocol.specs.Ends.{ends, controller-rules}
 use Rattle.protocol.specs.Relabel.{in-packet}
 use Rattle.ends.specs.Controller.{end, act}
@@ -83,11 +83,11 @@ fifth = Take (for-controller.Packet (up.Data (record { 0 = 5 })))
 
 pub never-says-7 : RulesOut controller-refuses-kinds.ps controller-refuses-kinds.r controller-refuses.Post (λ κs a. (a .0 ≡ third true) × (a .1 .0 ≡ fifth)) (λ κs a x s. x ≡ 0)
 unfolding ends
-never-says-7 κs a x s e w p = unequal (sym w ∙ p ∙ (λ i. refusal (controller-rules counted (end (e .0 i)) (act (e .1 i))))) refl
+never-says-7 κs a x s e w p = unequal (sym w ∙ p ∙ (λ i. refusal (controller-rules numbering (end (e .0 i)) (act (e .1 i))))) refl
 
 pub says-7-before-4 : RulesOut controller-refuses-kinds.ps controller-refuses-kinds.r controller-refuses.Post (λ κs a. (a .0 ≡ third false) × (a .1 .0 ≡ fifth)) (λ κs a x s. x ≡ 7)
 unfolding ends
-says-7-before-4 κs a x s e w p = unequal (sym w ∙ p ∙ (λ i. refusal (controller-rules counted (end (e .0 i)) (act (e .1 i))))) refl
+says-7-before-4 κs a x s e w p = unequal (sym w ∙ p ∙ (λ i. refusal (controller-rules numbering (end (e .0 i)) (act (e .1 i))))) refl
 
 -- ## A console's fields
 

@@ -4,7 +4,7 @@ use mathlib.Core.Path.{_≡_, refl, sym, ap, _∙_}
 use mathlib.Core.Bool.{Bool, true, false}
 use Rattle.ground.specs.First.{refusal}
 use Rattle.ground.proofs.Promise.{RulesOut, unequal, clash}
-use Rattle.protocol.specs.Supply.{counted, next-counted}
+use Rattle.protocol.specs.Supply.{numbering, next-counted}
 use Rattle.protocol.specs.Ends as rules
 use Rattle.ends.specs.Console as console
 use Rattle.ends.specs.Controller as controller
@@ -39,10 +39,10 @@ abbrev console-in : ℕ → console-mode.Mode → Bool → console-end.End
 console-in used mode up = record { used = record { 0 = used }; mode = mode; up = up }
 
 abbrev console-did : console-end.End → console-act.Act → console-acted.Acted
-console-did e a = console.acted (rules.console-acts counted (console.end e) (console.act a))
+console-did e a = console.acted (rules.console-acts numbering (console.end e) (console.act a))
 
 abbrev console-refused : console-end.End → console-act.Act → Bool → ℕ
-console-refused e a good = refusal (rules.console-rules counted (tested good) (console.end e) (console.act a))
+console-refused e a good = refusal (rules.console-rules numbering (tested good) (console.end e) (console.act a))
 
 -- the offer names the order that is being sent
 pub done-for-the-order-being-sent : RulesOut console-acts-kinds.ps console-acts-kinds.r console-acts.Post
@@ -82,7 +82,7 @@ abbrev controller-in : controller-mode.Mode → Bool → controller-end.End
 controller-in mode up = record { used = record { 0 = 3 }; mode = mode; up = up }
 
 abbrev controller-did : controller-end.End → controller-act.Act → controller-acted.Acted
-controller-did e a = controller.acted (rules.controller-acts counted (controller.end e) (controller.act a))
+controller-did e a = controller.acted (rules.controller-acts numbering (controller.end e) (controller.act a))
 
 -- data of the order just delivered
 pub lost-to-a-repeat : RulesOut controller-acts-kinds.ps controller-acts-kinds.r controller-acts.Post

@@ -3,7 +3,7 @@ use Prim.Native.Nat.{ℕ}
 use mathlib.Core.List.{List}
 use Rattle.ground.specs.Cell.{spaces}
 use Rattle.protocol.specs.Ends as rules
-use Rattle.protocol.specs.Supply.{counted}
+use Rattle.protocol.specs.Supply.{numbering}
 use Rattle.protocol.specs.Relabel.{in-console, in-console-acted, in-controller-act}
 use Rattle.ends.specs.Console as console
 use Rattle.ends.specs.Controller as controller
@@ -70,8 +70,8 @@ deliveredBeside (report.Refused n) m = spaces
 
 -- what an act that is not refused comes to, with the message that is held before it and the one that is put
 abbrev pub consoleActed : console-end.End → List ℕ → Act → List ℕ → rules.ConsoleActed ℕ (List ℕ)
-consoleActed e held a message = in-console-acted (λ _. kept a message held) (rules.console-acts counted (console.end e) (console.act a))
+consoleActed e held a message = in-console-acted (λ _. kept a message held) (rules.console-acts numbering (console.end e) (console.act a))
 
 -- what an act that is not refused comes to; the message is that of the packet in
 abbrev pub controllerActed : controller-end.End → controller-act.Act → List ℕ → rules.ControllerActed ℕ (List ℕ)
-controllerActed e a message = rules.controller-acts counted (controller.end e) (in-controller-act (λ _. message) (controller.act a))
+controllerActed e a message = rules.controller-acts numbering (controller.end e) (in-controller-act (λ _. message) (controller.act a))

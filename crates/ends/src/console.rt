@@ -12,7 +12,7 @@ use wire::J;
 ghost use mathlib.Core.Path.{_≡_};
 ghost use mathlib.Core.List.{[], _∷_};
 ghost use Rattle.ground.specs.First.{refusal, first};
-ghost use Rattle.protocol.specs.Supply.{counted};
+ghost use Rattle.protocol.specs.Supply.{numbering};
 ghost use Rattle.protocol.specs.Ends.{console-takes, offer, ok, lost, console-acts, console-rules, needI-sent, data-sent, put, ConsoleAct, down-4, mode-6};
 ghost use Rattle.ends.specs.Means.{tested, toConsole, forConsole, forController, forControllerBack};
 ghost use Rattle.ends.specs.Console.{mode, turn, end, act, acted};
@@ -146,7 +146,8 @@ fn takes(now: Mode, p: ToConsole) -> Turn
     }
 }
 
-fn needi_sent(now: Mode) -> ForController
+// Q, in needI: what is sent.
+pub fn needi_sent(now: Mode) -> ForController
     ensures { λ r. ⌜ r ≡ forControllerBack (needI-sent (mode now)) ⌝ }
 {
     match now {
@@ -156,7 +157,8 @@ fn needi_sent(now: Mode) -> ForController
     }
 }
 
-fn data_sent(now: Mode) -> ForController
+// D, in send: what is sent.
+pub fn data_sent(now: Mode) -> ForController
     ensures { λ r. ⌜ r ≡ forControllerBack (data-sent (mode now)) ⌝ }
 {
     match now {
@@ -177,8 +179,9 @@ fn stays(e: End, sent: ForController) -> Acted
     }
 }
 
-fn puts(e: End) -> Acted
-    ensures { λ r. ⌜ r ≡ acted (console-acts counted (end e) (put tt)) ⌝ }
+// P that is not refused.
+pub fn puts(e: End) -> Acted
+    ensures { λ r. ⌜ r ≡ acted (console-acts numbering (end e) (put tt)) ⌝ }
 {
     let used = e.used;
     if j_spent(used) {
@@ -214,8 +217,9 @@ fn turned(e: End, t: Turn) -> Acted
     }
 }
 
-fn takes_what_came(e: End, p: ForConsole) -> Acted
-    ensures { λ r. ⌜ r ≡ acted (console-acts counted (end e) (ConsoleAct.take (forConsole p))) ⌝ }
+// S, by kind.
+pub fn takes_what_came(e: End, p: ForConsole) -> Acted
+    ensures { λ r. ⌜ r ≡ acted (console-acts numbering (end e) (ConsoleAct.take (forConsole p))) ⌝ }
 {
     match p {
         ForConsole::Nothing => stays(e, ForController::Nothing),
@@ -226,16 +230,18 @@ fn takes_what_came(e: End, p: ForConsole) -> Acted
     }
 }
 
-fn goes_down(e: End) -> Acted
-    ensures { λ r. ⌜ r ≡ acted (console-acts counted (end e) ConsoleAct.go-down) ⌝ }
+// C.
+pub fn goes_down(e: End) -> Acted
+    ensures { λ r. ⌜ r ≡ acted (console-acts numbering (end e) ConsoleAct.go-down) ⌝ }
 {
     let mut after = e;
     after.up = false;
     stays(after, ForController::Nothing)
 }
 
-fn comes_back(e: End) -> Acted
-    ensures { λ r. ⌜ r ≡ acted (console-acts counted (end e) ConsoleAct.come-back) ⌝ }
+// V.
+pub fn comes_back(e: End) -> Acted
+    ensures { λ r. ⌜ r ≡ acted (console-acts numbering (end e) ConsoleAct.come-back) ⌝ }
 {
     let last_used = e.used;
     let after = End {
@@ -248,7 +254,7 @@ fn comes_back(e: End) -> Acted
 
 // What a console does that does not refuse. No entry: it tests nothing, and carries out what the rules refuse; whoever calls it asks `refuses` first.
 pub fn acts(e: End, asked: Act) -> Acted
-    ensures { λ r. ⌜ r ≡ acted (console-acts counted (end e) (act asked)) ⌝ }
+    ensures { λ r. ⌜ r ≡ acted (console-acts numbering (end e) (act asked)) ⌝ }
 {
     let mode = e.mode;
     match asked {
@@ -261,8 +267,9 @@ pub fn acts(e: End, asked: Act) -> Acted
     }
 }
 
-fn put_refusal(e: End, good: bool) -> u8
-    ensures { λ r. ⌜ r ≡ refusal (console-rules counted (tested good) (end e) (put tt)) ⌝ }
+// The first refusal of P, or 0; `good` says that the message put is 16 cells.
+pub fn put_refusal(e: End, good: bool) -> u8
+    ensures { λ r. ⌜ r ≡ refusal (console-rules numbering (tested good) (end e) (put tt)) ⌝ }
 {
     if !good {
         return 11;
@@ -278,7 +285,8 @@ fn put_refusal(e: End, good: bool) -> u8
     }
 }
 
-fn send_refusal(e: End, sent: ForController) -> u8
+// The first refusal of Q or D, which would send this, or 0.
+pub fn send_refusal(e: End, sent: ForController) -> u8
     ensures { λ r. ⌜ r ≡ first (down-4 (e .up) ∷ mode-6 (forController sent) ∷ []) ⌝ }
 {
     if !e.up {
@@ -292,7 +300,7 @@ fn send_refusal(e: End, sent: ForController) -> u8
 
 // The first refusal that applies, or 0; `good` says that the message put is 16 cells.
 pub fn refuses(e: End, asked: Act, good: bool) -> u8
-    ensures { λ r. ⌜ r ≡ refusal (console-rules counted (tested good) (end e) (act asked)) ⌝ }
+    ensures { λ r. ⌜ r ≡ refusal (console-rules numbering (tested good) (end e) (act asked)) ⌝ }
 {
     let mode = e.mode;
     match asked {

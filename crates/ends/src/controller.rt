@@ -15,7 +15,7 @@ ghost use mathlib.Core.Option.{Option, some};
 ghost use Prim.Native.Nat.{ℕ};
 ghost use lib.Dec.{leb};
 ghost use Rattle.ground.specs.First.{refusal, first};
-ghost use Rattle.protocol.specs.Supply.{counted};
+ghost use Rattle.protocol.specs.Supply.{numbering};
 ghost use Rattle.protocol.specs.Ends.{controller-takes, needI, order, done, controller-acts, controller-rules, offer-sent, ok-sent, ControllerAct, down-4, mode-6, unknown};
 ghost use Rattle.ends.specs.Means.{toController, forController, forConsole, forConsoleBack};
 ghost use Rattle.ends.specs.Controller.{mode, turn, end, act, acted};
@@ -124,7 +124,8 @@ fn takes_done(now: Mode, i: I) -> Turn
     }
 }
 
-fn offer_sent(now: Mode) -> ForConsole
+// O, in accept: what is sent.
+pub fn offer_sent(now: Mode) -> ForConsole
     ensures { λ r. ⌜ r ≡ forConsoleBack (offer-sent (mode now)) ⌝ }
 {
     match now {
@@ -134,7 +135,8 @@ fn offer_sent(now: Mode) -> ForConsole
     }
 }
 
-fn ok_sent(now: Mode) -> ForConsole
+// K, in ack: what is sent.
+pub fn ok_sent(now: Mode) -> ForConsole
     ensures { λ r. ⌜ r ≡ forConsoleBack (ok-sent (mode now)) ⌝ }
 {
     match now {
@@ -157,7 +159,7 @@ fn stays(e: End, sent: ForConsole) -> Acted
 
 // The only packet that takes a number.
 fn takes_needi(e: End, j: J) -> Acted
-    ensures { λ r. ⌜ r ≡ acted (controller-acts counted (end e) (ControllerAct.take (some (needI (j .0))))) ⌝ }
+    ensures { λ r. ⌜ r ≡ acted (controller-acts numbering (end e) (ControllerAct.take (some (needI (j .0))))) ⌝ }
 {
     let used = e.used;
     let mode = e.mode;
@@ -198,7 +200,7 @@ fn turned(e: End, t: Turn) -> Acted
 }
 
 fn takes(e: End, p: ToController) -> Acted
-    ensures { λ r. ⌜ r ≡ acted (controller-acts counted (end e) (ControllerAct.take (some (toController p)))) ⌝ }
+    ensures { λ r. ⌜ r ≡ acted (controller-acts numbering (end e) (ControllerAct.take (some (toController p)))) ⌝ }
 {
     let mode = e.mode;
     match p {
@@ -208,8 +210,9 @@ fn takes(e: End, p: ToController) -> Acted
     }
 }
 
-fn takes_what_came(e: End, p: ForController) -> Acted
-    ensures { λ r. ⌜ r ≡ acted (controller-acts counted (end e) (ControllerAct.take (forController p))) ⌝ }
+// R, by kind.
+pub fn takes_what_came(e: End, p: ForController) -> Acted
+    ensures { λ r. ⌜ r ≡ acted (controller-acts numbering (end e) (ControllerAct.take (forController p))) ⌝ }
 {
     match p {
         ForController::Nothing => stays(e, ForConsole::Nothing),
@@ -217,16 +220,18 @@ fn takes_what_came(e: End, p: ForController) -> Acted
     }
 }
 
-fn goes_down(e: End) -> Acted
-    ensures { λ r. ⌜ r ≡ acted (controller-acts counted (end e) ControllerAct.go-down) ⌝ }
+// X.
+pub fn goes_down(e: End) -> Acted
+    ensures { λ r. ⌜ r ≡ acted (controller-acts numbering (end e) ControllerAct.go-down) ⌝ }
 {
     let mut after = e;
     after.up = false;
     stays(after, ForConsole::Nothing)
 }
 
-fn comes_back(e: End) -> Acted
-    ensures { λ r. ⌜ r ≡ acted (controller-acts counted (end e) ControllerAct.come-back) ⌝ }
+// Y.
+pub fn comes_back(e: End) -> Acted
+    ensures { λ r. ⌜ r ≡ acted (controller-acts numbering (end e) ControllerAct.come-back) ⌝ }
 {
     let last_used = e.used;
     let after = End {
@@ -239,7 +244,7 @@ fn comes_back(e: End) -> Acted
 
 // What a controller does that does not refuse. No entry: it tests nothing, and carries out what the rules refuse; whoever calls it asks `refuses` first.
 pub fn acts(e: End, asked: Act) -> Acted
-    ensures { λ r. ⌜ r ≡ acted (controller-acts counted (end e) (act asked)) ⌝ }
+    ensures { λ r. ⌜ r ≡ acted (controller-acts numbering (end e) (act asked)) ⌝ }
 {
     let mode = e.mode;
     match asked {
@@ -251,7 +256,8 @@ pub fn acts(e: End, asked: Act) -> Acted
     }
 }
 
-fn send_refusal(e: End, sent: ForConsole) -> u8
+// The first refusal of O or K, which would send this, or 0.
+pub fn send_refusal(e: End, sent: ForConsole) -> u8
     ensures { λ r. ⌜ r ≡ first (down-4 (e .up) ∷ mode-6 (forConsole sent) ∷ []) ⌝ }
 {
     if !e.up {
@@ -274,8 +280,9 @@ fn is_unknown(used: I, p: ToController) -> bool
     }
 }
 
-fn take_refusal(e: End, p: ForController) -> u8
-    ensures { λ r. ⌜ r ≡ refusal (controller-rules counted (end e) (ControllerAct.take (forController p))) ⌝ }
+// The first refusal of R, or 0.
+pub fn take_refusal(e: End, p: ForController) -> u8
+    ensures { λ r. ⌜ r ≡ refusal (controller-rules numbering (end e) (ControllerAct.take (forController p))) ⌝ }
 {
     if !e.up {
         return 4;
@@ -288,7 +295,7 @@ fn take_refusal(e: End, p: ForController) -> u8
 
 // The first refusal of the rules that applies, or 0.
 pub fn refuses(e: End, asked: Act) -> u8
-    ensures { λ r. ⌜ r ≡ refusal (controller-rules counted (end e) (act asked)) ⌝ }
+    ensures { λ r. ⌜ r ≡ refusal (controller-rules numbering (end e) (act asked)) ⌝ }
 {
     let mode = e.mode;
     match asked {

@@ -1,3 +1,4 @@
+pub mod Asking
 pub mod Determined
 pub mod Scan
 pub mod Wrong

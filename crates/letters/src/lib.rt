@@ -1,4 +1,4 @@
-// The thirteen letters and the fields that each uses, as document 01's table has them.
+// The thirteen letters, whom each asks what, and the fields that it uses, as document 01's table has them.
 ghost use Prim.Native.Nat.{_<_};
 ghost use mathlib.Core.Path.{_≡_};
 ghost use Rattle.protocol.specs.Letters.{letter};
@@ -20,10 +20,36 @@ pub enum Letter {
     M,
 }
 
-// A letter, its byte, and whether it uses the place, the copies and the message.
+// What the console, or the controller, can be asked to do.
+pub enum ConsoleAsk {
+    Put,
+    SendNeedI,
+    SendData,
+    Take,
+    GoDown,
+    ComeBack,
+}
+
+pub enum ControllerAsk {
+    SendOffer,
+    SendOk,
+    Take,
+    GoDown,
+    ComeBack,
+}
+
+// Whom a letter asks, and to do what.
+pub enum Asks {
+    Console(ConsoleAsk),
+    Controller(ControllerAsk),
+    NoEnd,
+}
+
+// A letter, its byte, whom it asks what, and whether it uses the place, the copies and the message.
 pub struct Line {
     pub byte: u8,
     pub letter: Letter,
+    pub asks: Asks,
     pub place: bool,
     pub copies: bool,
     pub message: bool,
@@ -38,6 +64,7 @@ const LINES: [Line; 13] = [
     Line {
         byte: b'P',
         letter: Letter::P,
+        asks: Asks::Console(ConsoleAsk::Put),
         place: false,
         copies: false,
         message: true,
@@ -45,6 +72,7 @@ const LINES: [Line; 13] = [
     Line {
         byte: b'Q',
         letter: Letter::Q,
+        asks: Asks::Console(ConsoleAsk::SendNeedI),
         place: false,
         copies: true,
         message: false,
@@ -52,6 +80,7 @@ const LINES: [Line; 13] = [
     Line {
         byte: b'D',
         letter: Letter::D,
+        asks: Asks::Console(ConsoleAsk::SendData),
         place: false,
         copies: true,
         message: false,
@@ -59,6 +88,7 @@ const LINES: [Line; 13] = [
     Line {
         byte: b'S',
         letter: Letter::S,
+        asks: Asks::Console(ConsoleAsk::Take),
         place: true,
         copies: true,
         message: false,
@@ -66,6 +96,7 @@ const LINES: [Line; 13] = [
     Line {
         byte: b'C',
         letter: Letter::C,
+        asks: Asks::Console(ConsoleAsk::GoDown),
         place: false,
         copies: false,
         message: false,
@@ -73,6 +104,7 @@ const LINES: [Line; 13] = [
     Line {
         byte: b'V',
         letter: Letter::V,
+        asks: Asks::Console(ConsoleAsk::ComeBack),
         place: false,
         copies: false,
         message: false,
@@ -80,6 +112,7 @@ const LINES: [Line; 13] = [
     Line {
         byte: b'O',
         letter: Letter::O,
+        asks: Asks::Controller(ControllerAsk::SendOffer),
         place: false,
         copies: true,
         message: false,
@@ -87,6 +120,7 @@ const LINES: [Line; 13] = [
     Line {
         byte: b'K',
         letter: Letter::K,
+        asks: Asks::Controller(ControllerAsk::SendOk),
         place: false,
         copies: true,
         message: false,
@@ -94,6 +128,7 @@ const LINES: [Line; 13] = [
     Line {
         byte: b'R',
         letter: Letter::R,
+        asks: Asks::Controller(ControllerAsk::Take),
         place: true,
         copies: true,
         message: false,
@@ -101,6 +136,7 @@ const LINES: [Line; 13] = [
     Line {
         byte: b'X',
         letter: Letter::X,
+        asks: Asks::Controller(ControllerAsk::GoDown),
         place: false,
         copies: false,
         message: false,
@@ -108,6 +144,7 @@ const LINES: [Line; 13] = [
     Line {
         byte: b'Y',
         letter: Letter::Y,
+        asks: Asks::Controller(ControllerAsk::ComeBack),
         place: false,
         copies: false,
         message: false,
@@ -115,6 +152,7 @@ const LINES: [Line; 13] = [
     Line {
         byte: b'L',
         letter: Letter::L,
+        asks: Asks::NoEnd,
         place: true,
         copies: false,
         message: false,
@@ -122,6 +160,7 @@ const LINES: [Line; 13] = [
     Line {
         byte: b'M',
         letter: Letter::M,
+        asks: Asks::NoEnd,
         place: true,
         copies: false,
         message: false,

@@ -1,4 +1,7 @@
+-- `alone::console::hears` meets its contract: 15, then 4, then what the packet does.
 use borrow.Author.Needs.{needs}
+use Rattle.alone.proofs.ConsoleAlone.{hears-15, hears-4, hears-done}
+use Rattle.alone.proofs.ConsoleReady.{reply-writable}
 use Rattle.alone.proofs.console.hears.Statement.{statement}
 use Rattle.alone.proofs.console.hears.Tie as tie
 
@@ -6,10 +9,15 @@ pub hears-spec : {M : Type 1} → statement M
 hears-spec =
     tie.close
     (tie.spec
-    (λ c κs. search needs)
-    (λ c. search needs)
-    (λ c. search needs)
-    (λ c κs. search needs)
-    (λ c κs. search needs)
-    (λ c. rw (← c .before .before .before .read-head .ensures, c .before .head .given .1))
-    (λ c. rw (← c .before .before .before .before .before .read-head .ensures, c .before .before .before .head2 .given .1, ← c .before .for-console .ensures .0) (c .takes .ensures)))
+    (λ c κs. search needs)  -- for-console-requires
+    (λ c. search needs)  -- enum-told
+    (λ c κs. search needs)  -- refused-requires
+    (λ c. search needs)  -- enum-known-came
+    (λ c κs. search needs)  -- takes-what-came-requires
+    (λ c κs. search reply-writable)  -- replies-requires
+    (λ c κs. search needs)  -- refused-requires-2
+    (λ c. search hears-15)  -- returns
+    (λ c. search needs)  -- same-length
+    (λ c. search hears-done)  -- returns-2
+    (λ c. search hears-4)  -- returns-3
+    )

@@ -1,3 +1,4 @@
+-- `alone::controller::send` meets its contract: what can be written is written.
 use borrow.Author.Needs.{needs}
 use mathlib.Core.Path.{refl}
 use Rattle.protocol.specs.Ends.{absent}

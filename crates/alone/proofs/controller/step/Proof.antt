@@ -1,6 +1,6 @@
+-- `alone::controller::step` meets its contract: 1, 2, then what is asked.
 use borrow.Author.Needs.{needs}
-use Rattle.alone.proofs.ControllerAsking.{ready}
-use Rattle.alone.proofs.ControllerAlone.{refused-ill, refused-well, alone-ill, alone-does, read-as}
+use Rattle.alone.proofs.ControllerAlone.{alone-none, alone-console, alone-neither, alone-ill, alone-asked, read-as}
 use Rattle.alone.proofs.controller.step.Statement.{statement}
 use Rattle.alone.proofs.controller.step.Tie as tie
 
@@ -8,22 +8,24 @@ pub step-spec : {M : Type 1} → statement M
 step-spec =
     tie.close
     (tie.spec
-    (λ c κs. search needs)
-    (λ c κs. search needs)
-    (λ c. search needs)
-    (λ c. search needs)
-    (λ c κs. search needs)
-    (λ c κs. search needs)
-    (λ c. search needs)
-    (λ c κs. search needs)
-    (λ c κs. search needs)
-    (λ c. search needs)
-    (λ c. search needs)
-    (λ c κs. search needs)
-    (λ c. search needs)
-    (λ c κs. (search read-as, search ready))
-    (λ c. search refused-ill)
-    (λ c. search refused-well)
-    (λ c. search alone-ill)
-    (λ c. search needs)
-    (λ c. search alone-does))
+    (λ c κs. search needs)  -- find-requires
+    (λ c. search needs)  -- enum-told
+    (λ c κs. search needs)  -- refused-requires
+    (λ c. search needs)  -- enum-known-found
+    (λ c. search needs)  -- enum-known-asks
+    (λ c κs. search needs)  -- read-controller-requires
+    (λ c. search needs)  -- enum-told-2
+    (λ c κs. search needs)  -- refused-requires-2
+    (λ c. search needs)  -- enum-known-read
+    (λ c κs. search read-as)  -- does-requires
+    (λ c. search needs)  -- enum-told-3
+    (λ c κs. search needs)  -- refused-requires-3
+    (λ c. search needs)  -- enum-told-4
+    (λ c κs. search needs)  -- refused-requires-4
+    (λ c. search alone-none)  -- returns
+    (λ c. search alone-ill)  -- returns-2
+    (λ c. search needs)  -- same-length
+    (λ c. search alone-asked)  -- returns-3
+    (λ c. search alone-console)  -- returns-4
+    (λ c. search alone-neither)  -- returns-5
+    )

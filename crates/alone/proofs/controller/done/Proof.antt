@@ -1,0 +1,13 @@
+-- `alone::controller::done` meets its contract: what was done, told.
+use borrow.Author.Needs.{needs}
+use Rattle.alone.proofs.ControllerAlone.{done-so}
+use Rattle.alone.proofs.controller.done.Statement.{statement}
+use Rattle.alone.proofs.controller.done.Tie as tie
+
+pub done-spec : {M : Type 1} → statement M
+done-spec =
+    tie.close
+    (tie.spec
+    (λ c κs. search needs)  -- controller-of-requires
+    (λ c. search done-so)  -- returns
+    )

@@ -8,6 +8,7 @@ use lib.Dec.{ltb}
 use lib.ListN.{length}
 use borrow.Author.Tests.{ltb-true, ltb-false, le-leb}
 use Rattle.ground.specs.Choice.{if_then_else_}
+use Rattle.ground.proofs.Lists.{split}
 use Rattle.ground.proofs.Tests.{by-test}
 use Rattle.wire.specs.declared.Direction.{Direction}
 use Rattle.wire.specs.declared.ReadPacket.{ReadPacket}
@@ -26,7 +27,7 @@ use Rattle.ends.specs.declared.console.Act as console-act
 use Rattle.ends.specs.declared.controller.Act as controller-act
 use Rattle.channels.specs.Packets.{toControllerBytes, toConsoleBytes}
 use Rattle.channels.specs.Table.{channel, packetAt}
-use Rattle.channels.proofs.Channel.{split, packet-at-is}
+use Rattle.channels.proofs.Channel.{packet-at-is}
 use Rattle.channels.proofs.Packets.{to-controller-coded, to-console-coded, ToControllerOk, ToConsoleOk}
 use Rattle.bench.specs.Asking.{heard, backAt, outAt, requested}
 use Rattle.bench.specs.Within.{Known, insideMeans, asksOf, Lined, OnConsole, OnController, OnLosing}

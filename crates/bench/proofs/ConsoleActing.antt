@@ -8,7 +8,7 @@ use native.Mathlib.Omega.{arith}
 use borrow.Author.Tests.{not-false}
 use Rattle.ground.specs.Cell.{isMessage, spaces}
 use Rattle.ground.specs.Choice.{if_then_else_}
-use Rattle.protocol.specs.Supply.{counted}
+use Rattle.protocol.specs.Supply.{numbering}
 use Rattle.protocol.specs.Lists.{Opt}
 use Rattle.protocol.specs.Ends as ends
 use Rattle.protocol.specs.Bench as rules
@@ -17,7 +17,7 @@ use Rattle.protocol.specs.WellFormed.{Well-formed, To-controller-ok}
 use Rattle.bench.proofs.Handing.{Handed, handed, out-held, back-held}
 use Rattle.bench.proofs.ConsoleStages.{end-is, three-is, nine-is, kept-flag}
 use Rattle.protocol.proofs.Stages.{staged-9, staged-0, step-does}
-use Rattle.protocol.proofs.Supply.{counted-lawful}
+use Rattle.protocol.proofs.Supply.{numbering-lawful}
 use Rattle.protocol.proofs.WellFormed.{console-acts-ok, step-well-formed}
 use Rattle.letters.specs.Lines.{letterMeans}
 use Rattle.letters.specs.declared.Line.{Line}
@@ -44,7 +44,7 @@ module _ (b : Inside) (out back : List ℕ) (line : Line) (a : Action) (asked : 
   ract = in-console-act (λ _. a .message) (act asked)
 
   abbrev d : ends.ConsoleActed ℕ (List ℕ)
-  d = ends.console-acts counted (in-console (λ _. b .held) (end (b .console))) ract
+  d = ends.console-acts numbering (in-console (λ _. b .held) (end (b .console))) ract
 
   abbrev B : rules.Bench ℕ (List ℕ)
   B = insideMeans b out back
@@ -58,30 +58,30 @@ module _ (b : Inside) (out back : List ℕ) (line : Line) (a : Action) (asked : 
         toConsole = left (line .place) (B .toConsole) (a .place);
       }
 
-  taken-does : (uses : Bool) → rules.does counted (rules.taken-out (if uses then rules.from-toConsole else rules.from-neither) B (a .place)) (a .copies) (rules.Asked.console ract)
+  taken-does : (uses : Bool) → rules.does numbering (rules.taken-out (if uses then rules.from-toConsole else rules.from-neither) B (a .place)) (a .copies) (rules.Asked.console ract)
       ≡ record { report = d .report; after = record { console = d .after; controller = B .controller; toController = B .toController ++ rules.copies-of (a .copies) (d .sent); toConsole = left uses (B .toConsole) (a .place) } }
   unfolding rules.does rules.taken-out left if_then_else_ insideMeans
   taken-does false = refl
   taken-does true = refl
 
-  effect-is : rules.effect counted B (actionOf line a) ≡ record { report = d .report; after = after }
+  effect-is : rules.effect numbering B (actionOf line a) ≡ record { report = d .report; after = after }
   unfolding rules.effect actionOf
-  effect-is = (λ i. rules.does counted (rules.taken-out (w .on .takes i) B (a .place)) (a .copies) (w .on .asks i)) ∙ taken-does (line .place)
+  effect-is = (λ i. rules.does numbering (rules.taken-out (w .on .takes i) B (a .place)) (a .copies) (w .on .asks i)) ∙ taken-does (line .place)
 
-  sends-ok : Opt (To-controller-ok counted isMessage) (d .sent)
+  sends-ok : Opt (To-controller-ok numbering isMessage) (d .sent)
   unfolding insideMeans
   sends-ok =
       let x : Handed (rules.Asked.console ract) = subst Handed (w .on .asks) (handed B (k .well-formed) (letterMeans (line .letter)) (a .place) (a .message)) in
-      console-acts-ok counted counted-lawful isMessage (B .console) ract (same-refusal (b .console) (b .held) asked (a .message) ∙ w .accepts) (k .well-formed .console) x .1
+      console-acts-ok numbering numbering-lawful isMessage (B .console) ract (same-refusal (b .console) (b .held) asked (a .message) ∙ w .accepts) (k .well-formed .console) x .1
 
-  module _ {h : List ℕ} {done : Acted} {sent : Sent} {room : Bool} (f : h ≡ (if line .message then a .message else b .held)) (g : done ≡ acted (ends.console-acts counted (end (b .console)) (act asked))) (s : sent ≡ sentOf (toControllerSent (done .sent) h)) (r : room ≡ roomFor (sent .any) (b .sent) (a .copies)) where
+  module _ {h : List ℕ} {done : Acted} {sent : Sent} {room : Bool} (f : h ≡ (if line .message then a .message else b .held)) (g : done ≡ acted (ends.console-acts numbering (end (b .console)) (act asked))) (s : sent ≡ sentOf (toControllerSent (done .sent) h)) (r : room ≡ roomFor (sent .any) (b .sent) (a .copies)) where
     held-is : h ≡ kept asked (a .message) (b .held)
     held-is = f ∙ ap (λ (x : Bool). if x then a .message else b .held) (w .on .message) ∙ kept-flag asked (a .message) (b .held)
 
     sent-is : sent ≡ sentOf (Option·map toControllerPacket (d .sent))
     sent-is = s ∙ ap sentOf (done-sent (b .console) (b .held) asked (a .message) held-is g (w .accepts))
 
-    room-is : (line .copies && rules.no-room counted B (a .copies) (asksOf b out back line a)) ≡ not room
+    room-is : (line .copies && rules.no-room numbering B (a .copies) (asksOf b out back line a)) ≡ not room
     room-is = nine-is b out back line a asked k (w .on) ∙ ap (λ (x : Sent). not (roomFor (x .any) (b .sent) (a .copies))) (sym sent-is) ∙ ap not (sym r)
 
     pub console-full : {x : Told} → not room ≡ true → x ≡ record { report = Refused 9; message = spaces; after = b } → within x out back ≡ insideStep b out back line a
@@ -94,9 +94,9 @@ module _ (b : Inside) (out back : List ℕ) (line : Line) (a : Action) (asked : 
     pub console-room : not room ≡ false → roomFor (sent .any) (b .sent) (a .copies) ≡ true
     console-room n = sym r ∙ not-false room n
 
-    step-is : not room ≡ false → rules.step counted isMessage B (actionOf line a) ≡ record { report = d .report; after = after }
+    step-is : not room ≡ false → rules.step numbering isMessage B (actionOf line a) ≡ record { report = d .report; after = after }
     step-is n =
-        step-does counted isMessage B (actionOf line a)
+        step-does numbering isMessage B (actionOf line a)
         (stages b out back line a (w .on .lined)
         ∙ staged-0 _ _ _ _ (w .on .few) (end-is b out back line a asked k (w .on) ∙ w .accepts) (three-is b out back line a asked k (w .on) ∙ w .there) (room-is ∙ n))
         ∙ effect-is
@@ -108,7 +108,7 @@ module _ (b : Inside) (out back : List ℕ) (line : Line) (a : Action) (asked : 
     unfolding within insideStep withinTold insideMeans
     console-done {ret} {cnt} {out′} {back′} n t u =
         let e = step-is n in
-        let wf : Well-formed counted isMessage after = subst (λ (o : rules.Outcome ℕ (List ℕ)). Well-formed counted isMessage (o .after)) e (step-well-formed counted counted-lawful isMessage B (actionOf line a) (k .well-formed)) in
+        let wf : Well-formed numbering isMessage after = subst (λ (o : rules.Outcome ℕ (List ℕ)). Well-formed numbering isMessage (o .after)) e (step-well-formed numbering numbering-lawful isMessage B (actionOf line a) (k .well-formed)) in
         let sends = sending to-controller-coded (a .copies) (d .sent) (out-held b out back k) sends-ok (wf .to-controller-room) in
         let takes = taking to-console-coded (line .place) (a .place) (back-held b out back k) in
         let outs = u .1 ∙ ap (λ (x : Sent). tableSent x out (b .sent) (a .copies)) sent-is ∙ sends .0 in

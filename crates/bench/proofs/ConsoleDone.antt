@@ -4,7 +4,7 @@ use mathlib.Core.Path.{_≡_, refl, sym, ap, _∙_}
 use mathlib.Core.Option.{Option, Option·map}
 use mathlib.Core.List.{List}
 use Rattle.ground.specs.Cell.{spaces}
-use Rattle.protocol.specs.Supply.{counted}
+use Rattle.protocol.specs.Supply.{numbering}
 use Rattle.protocol.specs.Ends as rules
 use Rattle.protocol.specs.Relabel.{in-packet, in-console, in-console-act, in-console-acted}
 use Rattle.protocol.proofs.Ends.{console-reports}
@@ -28,15 +28,15 @@ end-again : (d : rules.ConsoleActed ℕ Beside) → end (acted d .after) ≡ d .
 end-again d = λ i. record { numbers = d .after .numbers; mode = mode-again (d .after .mode) i; up = d .after .up }
 
 -- a console delivers nothing
-silence : (e : rules.Console ℕ (List ℕ)) (a : rules.ConsoleAct (List ℕ)) → spaces ≡ delivered (rules.console-acts counted e a .report)
-silence e a = console-reports (λ (r : rules.Report (List ℕ)). spaces ≡ delivered r) refl refl refl counted e a
+silence : (e : rules.Console ℕ (List ℕ)) (a : rules.ConsoleAct (List ℕ)) → spaces ≡ delivered (rules.console-acts numbering e a .report)
+silence e a = console-reports (λ (r : rules.Report (List ℕ)). spaces ≡ delivered r) refl refl refl numbering e a
 
-module _ {h : List ℕ} {done : Acted} (e : End) (b : List ℕ) (a : Act) (m : List ℕ) (f : h ≡ kept a m b) (g : done ≡ acted (rules.console-acts counted (end e) (act a))) (z : refusalOf e a m ≡ 0) where
+module _ {h : List ℕ} {done : Acted} (e : End) (b : List ℕ) (a : Act) (m : List ℕ) (f : h ≡ kept a m b) (g : done ≡ acted (rules.console-acts numbering (end e) (act a))) (z : refusalOf e a m ≡ 0) where
   abbrev d : rules.ConsoleActed ℕ (List ℕ)
-  d = rules.console-acts counted (in-console (λ _. b) (end e)) (in-console-act (λ _. m) (act a))
+  d = rules.console-acts numbering (in-console (λ _. b) (end e)) (in-console-act (λ _. m) (act a))
 
   abbrev x : rules.ConsoleActed ℕ Beside
-  x = rules.console-acts counted (end e) (act a)
+  x = rules.console-acts numbering (end e) (act a)
 
   same : in-console-acted (λ _. h) x ≡ d
   same = ap (λ (k : List ℕ). in-console-acted (λ _. k) x) f ∙ sym (acts-kept e b a m z)

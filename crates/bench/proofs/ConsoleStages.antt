@@ -9,7 +9,7 @@ use lib.Dec.{leb}
 use Rattle.ground.specs.Cell.{isMessage, spaces}
 use Rattle.ground.specs.Choice.{if_then_else_}
 use Rattle.ground.specs.First.{refusal}
-use Rattle.protocol.specs.Supply.{counted}
+use Rattle.protocol.specs.Supply.{numbering}
 use Rattle.protocol.specs.Ends as ends
 use Rattle.protocol.specs.Bench as rules
 use Rattle.protocol.specs.Relabel.{in-console, in-console-act}
@@ -37,7 +37,7 @@ use Rattle.bench.proofs.Tables.{held}
 
 -- ## What a put alone looks at and keeps
 
-same-flag : (e : End) (a : Act) (good : Bool) → refusal (ends.console-rules counted (tested (if puts a then good else true)) (end e) (act a)) ≡ refusal (ends.console-rules counted (tested good) (end e) (act a))
+same-flag : (e : End) (a : Act) (good : Bool) → refusal (ends.console-rules numbering (tested (if puts a then good else true)) (end e) (act a)) ≡ refusal (ends.console-rules numbering (tested good) (end e) (act a))
 unfolding ends.console-rules if_then_else_
 same-flag e Put good = refl
 same-flag e SendNeedI good = refl
@@ -63,13 +63,13 @@ module _ (b : Inside) (out back : List ℕ) (line : Line) (a : Action) (asked : 
   ract = in-console-act (λ _. a .message) (act asked)
 
   abbrev d : ends.ConsoleActed ℕ (List ℕ)
-  d = ends.console-acts counted (in-console (λ _. b .held) (end (b .console))) ract
+  d = ends.console-acts numbering (in-console (λ _. b .held) (end (b .console))) ract
 
   -- ## The stages
 
-  pub end-is : refusal (rules.end-rules counted isMessage B (asksOf b out back line a)) ≡ refusalOf (b .console) asked (a .message)
+  pub end-is : refusal (rules.end-rules numbering isMessage B (asksOf b out back line a)) ≡ refusalOf (b .console) asked (a .message)
   unfolding rules.end-rules insideMeans
-  end-is = ap (λ (x : rules.Asked (List ℕ)). refusal (rules.end-rules counted isMessage B x)) (w .asks) ∙ same-refusal (b .console) (b .held) asked (a .message)
+  end-is = ap (λ (x : rules.Asked (List ℕ)). refusal (rules.end-rules numbering isMessage B x)) (w .asks) ∙ same-refusal (b .console) (b .held) asked (a .message)
 
   missing-is : (uses : Bool) → (uses && rules.missing (if uses then rules.from-toConsole else rules.from-neither) B (a .place)) ≡ (uses && leb (b .returned) (a .place))
   unfolding rules.missing if_then_else_ insideMeans
@@ -79,20 +79,20 @@ module _ (b : Inside) (out back : List ℕ) (line : Line) (a : Action) (asked : 
   pub three-is : (line .place && rules.missing (rules.takes (letterMeans (line .letter))) B (a .place)) ≡ (line .place && leb (b .returned) (a .place))
   three-is = ap (λ (t : rules.Taken). line .place && rules.missing t B (a .place)) (w .takes) ∙ missing-is (line .place)
 
-  pub nine-is : (line .copies && rules.no-room counted B (a .copies) (asksOf b out back line a)) ≡ not (roomFor (sentOf (Option·map toControllerPacket (d .sent)) .any) (b .sent) (a .copies))
+  pub nine-is : (line .copies && rules.no-room numbering B (a .copies) (asksOf b out back line a)) ≡ not (roomFor (sentOf (Option·map toControllerPacket (d .sent)) .any) (b .sent) (a .copies))
   unfolding rules.no-room insideMeans
   nine-is =
-      ap (λ (x : rules.Asked (List ℕ)). line .copies && rules.no-room counted B (a .copies) x) (w .asks)
+      ap (λ (x : rules.Asked (List ℕ)). line .copies && rules.no-room numbering B (a .copies) x) (w .asks)
       ∙ exceed-is toControllerPacket (line .copies) (B .toController) (a .copies) (d .sent) (λ f. w .silent f (B .console)) (k .well-formed .to-controller-room)
       ∙ ap (λ (n : ℕ). not (roomFor (sentOf (Option·map toControllerPacket (d .sent)) .any) n (a .copies))) (packets-length to-controller-coded (b .sent) out)
 
   -- ## Refused by the end, or for want of the packet
 
-  module _ {n : ℕ} {good : Bool} (g : good ≡ (if line .message then isMessage (a .message) else true)) (e : n ≡ refusal (ends.console-rules counted (tested good) (end (b .console)) (act asked))) where
+  module _ {n : ℕ} {good : Bool} (g : good ≡ (if line .message then isMessage (a .message) else true)) (e : n ≡ refusal (ends.console-rules numbering (tested good) (end (b .console)) (act asked))) where
     number-is : n ≡ refusalOf (b .console) asked (a .message)
     number-is =
         e
-        ∙ ap (λ (x : Bool). refusal (ends.console-rules counted (tested x) (end (b .console)) (act asked))) (g ∙ ap (λ (x : Bool). if x then isMessage (a .message) else true) (w .message))
+        ∙ ap (λ (x : Bool). refusal (ends.console-rules numbering (tested x) (end (b .console)) (act asked))) (g ∙ ap (λ (x : Bool). if x then isMessage (a .message) else true) (w .message))
         ∙ same-flag (b .console) asked (isMessage (a .message))
 
     pub console-refused : {r : Told} → (n ≡ 0 → ⊥) → r ≡ record { report = Refused n; message = spaces; after = b } → within r out back ≡ insideStep b out back line a

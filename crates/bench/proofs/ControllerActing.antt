@@ -8,7 +8,7 @@ use native.Mathlib.Omega.{arith}
 use borrow.Author.Tests.{not-false}
 use Rattle.ground.specs.Cell.{isMessage, spaces}
 use Rattle.ground.specs.Choice.{if_then_else_}
-use Rattle.protocol.specs.Supply.{counted}
+use Rattle.protocol.specs.Supply.{numbering}
 use Rattle.protocol.specs.Lists.{Opt}
 use Rattle.protocol.specs.Ends as ends
 use Rattle.protocol.specs.Bench as rules
@@ -17,7 +17,7 @@ use Rattle.protocol.specs.WellFormed.{Well-formed, To-console-ok}
 use Rattle.bench.proofs.Handing.{Handed, handed, out-held, back-held}
 use Rattle.bench.proofs.ControllerStages.{end-is, three-is, nine-is}
 use Rattle.protocol.proofs.Stages.{staged-9, staged-0, step-does}
-use Rattle.protocol.proofs.Supply.{counted-lawful}
+use Rattle.protocol.proofs.Supply.{numbering-lawful}
 use Rattle.protocol.proofs.WellFormed.{controller-acts-ok, step-well-formed}
 use Rattle.letters.specs.Lines.{letterMeans}
 use Rattle.letters.specs.declared.Line.{Line}
@@ -43,7 +43,7 @@ module _ (b : Inside) (out back : List ℕ) (line : Line) (a : Action) (asked : 
   ract = in-controller-act (λ _. m) (act asked)
 
   abbrev d : ends.ControllerActed ℕ (List ℕ)
-  d = ends.controller-acts counted (end (b .controller)) ract
+  d = ends.controller-acts numbering (end (b .controller)) ract
 
   abbrev B : rules.Bench ℕ (List ℕ)
   B = insideMeans b out back
@@ -57,27 +57,27 @@ module _ (b : Inside) (out back : List ℕ) (line : Line) (a : Action) (asked : 
         toConsole = B .toConsole ++ rules.copies-of (a .copies) (d .sent);
       }
 
-  taken-does : (uses : Bool) → rules.does counted (rules.taken-out (if uses then rules.from-toController else rules.from-neither) B (a .place)) (a .copies) (rules.Asked.controller ract)
+  taken-does : (uses : Bool) → rules.does numbering (rules.taken-out (if uses then rules.from-toController else rules.from-neither) B (a .place)) (a .copies) (rules.Asked.controller ract)
       ≡ record { report = d .report; after = record { console = B .console; controller = d .after; toController = left uses (B .toController) (a .place); toConsole = B .toConsole ++ rules.copies-of (a .copies) (d .sent) } }
   unfolding rules.does rules.taken-out left if_then_else_ insideMeans
   taken-does false = refl
   taken-does true = refl
 
-  effect-is : rules.effect counted B (actionOf line a) ≡ record { report = d .report; after = after }
+  effect-is : rules.effect numbering B (actionOf line a) ≡ record { report = d .report; after = after }
   unfolding rules.effect actionOf
-  effect-is = (λ i. rules.does counted (rules.taken-out (w .on .takes i) B (a .place)) (a .copies) (w .on .asks i)) ∙ taken-does (line .place)
+  effect-is = (λ i. rules.does numbering (rules.taken-out (w .on .takes i) B (a .place)) (a .copies) (w .on .asks i)) ∙ taken-does (line .place)
 
-  sends-ok : Opt (To-console-ok counted) (d .sent)
+  sends-ok : Opt (To-console-ok numbering) (d .sent)
   unfolding insideMeans
   sends-ok =
       let x : Handed (rules.Asked.controller ract) = subst Handed (w .on .asks) (handed B (k .well-formed) (letterMeans (line .letter)) (a .place) (a .message)) in
-      controller-acts-ok counted counted-lawful isMessage (B .controller) ract (k .well-formed .controller) x .1
+      controller-acts-ok numbering numbering-lawful isMessage (B .controller) ract (k .well-formed .controller) x .1
 
-  module _ {done : Acted} {sent : Sent} {room : Bool} (g : done ≡ acted (ends.controller-acts counted (end (b .controller)) (act asked))) (s : sent ≡ sentOf (toConsoleSent (done .sent))) (r : room ≡ roomFor (sent .any) (b .returned) (a .copies)) where
+  module _ {done : Acted} {sent : Sent} {room : Bool} (g : done ≡ acted (ends.controller-acts numbering (end (b .controller)) (act asked))) (s : sent ≡ sentOf (toConsoleSent (done .sent))) (r : room ≡ roomFor (sent .any) (b .returned) (a .copies)) where
     sent-is : sent ≡ sentOf (Option·map toConsolePacket (d .sent))
     sent-is = s ∙ ap sentOf (done-sent (b .controller) asked m g)
 
-    room-is : (line .copies && rules.no-room counted B (a .copies) (asksOf b out back line a)) ≡ not room
+    room-is : (line .copies && rules.no-room numbering B (a .copies) (asksOf b out back line a)) ≡ not room
     room-is = nine-is b out back line a asked m k (w .on) ∙ ap (λ (x : Sent). not (roomFor (x .any) (b .returned) (a .copies))) (sym sent-is) ∙ ap not (sym r)
 
     pub controller-full : {x : Told} → not room ≡ true → x ≡ record { report = Refused 9; message = spaces; after = b } → within x out back ≡ insideStep b out back line a
@@ -90,9 +90,9 @@ module _ (b : Inside) (out back : List ℕ) (line : Line) (a : Action) (asked : 
     pub controller-room : not room ≡ false → roomFor (sent .any) (b .returned) (a .copies) ≡ true
     controller-room n = sym r ∙ not-false room n
 
-    step-is : not room ≡ false → rules.step counted isMessage B (actionOf line a) ≡ record { report = d .report; after = after }
+    step-is : not room ≡ false → rules.step numbering isMessage B (actionOf line a) ≡ record { report = d .report; after = after }
     step-is n =
-        step-does counted isMessage B (actionOf line a)
+        step-does numbering isMessage B (actionOf line a)
         (stages b out back line a (w .on .lined)
         ∙ staged-0 _ _ _ _ (w .on .few) (end-is b out back line a asked m k (w .on) ∙ w .accepts) (three-is b out back line a asked m k (w .on) ∙ w .there) (room-is ∙ n))
         ∙ effect-is
@@ -105,7 +105,7 @@ module _ (b : Inside) (out back : List ℕ) (line : Line) (a : Action) (asked : 
     unfolding within insideStep withinTold insideMeans
     controller-done {ret} {cnt} {s} {out′} {back′} n t u v =
         let e = step-is n in
-        let wf : Well-formed counted isMessage after = subst (λ (o : rules.Outcome ℕ (List ℕ)). Well-formed counted isMessage (o .after)) e (step-well-formed counted counted-lawful isMessage B (actionOf line a) (k .well-formed)) in
+        let wf : Well-formed numbering isMessage after = subst (λ (o : rules.Outcome ℕ (List ℕ)). Well-formed numbering isMessage (o .after)) e (step-well-formed numbering numbering-lawful isMessage B (actionOf line a) (k .well-formed)) in
         let sends = sending to-console-coded (a .copies) (d .sent) (back-held b out back k) sends-ok (wf .to-console-room) in
         let takes = taking to-controller-coded (line .place) (a .place) (out-held b out back k) in
         let outs = t .1 ∙ takes .0 in

@@ -3,7 +3,7 @@ use Prim.Native.Nat.{ℕ}
 use mathlib.Core.Path.{_≡_, refl, sym, ap, _∙_}
 use mathlib.Core.Option.{Option, Option·map}
 use mathlib.Core.List.{List}
-use Rattle.protocol.specs.Supply.{counted}
+use Rattle.protocol.specs.Supply.{numbering}
 use Rattle.protocol.specs.Ends as rules
 use Rattle.protocol.specs.Relabel.{in-controller-act, in-controller-acted}
 use Rattle.protocol.proofs.Relabel.{nat-controller-acts}
@@ -25,15 +25,15 @@ mode-again (rules.in-ack l) = refl
 end-again : (d : rules.ControllerActed ℕ Beside) → end (acted d .after) ≡ d .after
 end-again d = λ i. record { numbers = d .after .numbers; mode = mode-again (d .after .mode) i; up = d .after .up }
 
-module _ {done : Acted} (e : End) (a : Act) (m : List ℕ) (g : done ≡ acted (rules.controller-acts counted (end e) (act a))) where
+module _ {done : Acted} (e : End) (a : Act) (m : List ℕ) (g : done ≡ acted (rules.controller-acts numbering (end e) (act a))) where
   abbrev d : rules.ControllerActed ℕ (List ℕ)
-  d = rules.controller-acts counted (end e) (in-controller-act (λ _. m) (act a))
+  d = rules.controller-acts numbering (end e) (in-controller-act (λ _. m) (act a))
 
   abbrev x : rules.ControllerActed ℕ Beside
-  x = rules.controller-acts counted (end e) (act a)
+  x = rules.controller-acts numbering (end e) (act a)
 
   same : in-controller-acted (λ _. m) x ≡ d
-  same = sym (nat-controller-acts (λ _. m) counted (end e) (act a))
+  same = sym (nat-controller-acts (λ _. m) numbering (end e) (act a))
 
   pub done-report : done .report ≡ reportBack (d .report)
   done-report = ap (λ (r : Acted). r .report) g ∙ report-told m (x .report) ∙ ap (λ (r : rules.ControllerActed ℕ (List ℕ)). reportBack (r .report)) same

@@ -9,7 +9,7 @@ use lib.Dec.{leb}
 use Rattle.ground.specs.Cell.{isMessage, spaces}
 use Rattle.ground.specs.Choice.{if_then_else_}
 use Rattle.ground.specs.First.{refusal}
-use Rattle.protocol.specs.Supply.{counted}
+use Rattle.protocol.specs.Supply.{numbering}
 use Rattle.protocol.specs.Ends as ends
 use Rattle.protocol.specs.Bench as rules
 use Rattle.protocol.specs.Relabel.{in-controller-act}
@@ -38,13 +38,13 @@ module _ (b : Inside) (out back : List ℕ) (line : Line) (a : Action) (asked : 
   ract = in-controller-act (λ _. m) (act asked)
 
   abbrev d : ends.ControllerActed ℕ (List ℕ)
-  d = ends.controller-acts counted (end (b .controller)) ract
+  d = ends.controller-acts numbering (end (b .controller)) ract
 
   -- ## The stages
 
-  pub end-is : refusal (rules.end-rules counted isMessage B (asksOf b out back line a)) ≡ refusalOf (b .controller) asked
+  pub end-is : refusal (rules.end-rules numbering isMessage B (asksOf b out back line a)) ≡ refusalOf (b .controller) asked
   unfolding rules.end-rules insideMeans
-  end-is = ap (λ (x : rules.Asked (List ℕ)). refusal (rules.end-rules counted isMessage B x)) (w .asks) ∙ same-refusal (b .controller) asked m
+  end-is = ap (λ (x : rules.Asked (List ℕ)). refusal (rules.end-rules numbering isMessage B x)) (w .asks) ∙ same-refusal (b .controller) asked m
 
   missing-is : (uses : Bool) → (uses && rules.missing (if uses then rules.from-toController else rules.from-neither) B (a .place)) ≡ (uses && leb (b .sent) (a .place))
   unfolding rules.missing if_then_else_ insideMeans
@@ -54,16 +54,16 @@ module _ (b : Inside) (out back : List ℕ) (line : Line) (a : Action) (asked : 
   pub three-is : (line .place && rules.missing (rules.takes (letterMeans (line .letter))) B (a .place)) ≡ (line .place && leb (b .sent) (a .place))
   three-is = ap (λ (t : rules.Taken). line .place && rules.missing t B (a .place)) (w .takes) ∙ missing-is (line .place)
 
-  pub nine-is : (line .copies && rules.no-room counted B (a .copies) (asksOf b out back line a)) ≡ not (roomFor (sentOf (Option·map toConsolePacket (d .sent)) .any) (b .returned) (a .copies))
+  pub nine-is : (line .copies && rules.no-room numbering B (a .copies) (asksOf b out back line a)) ≡ not (roomFor (sentOf (Option·map toConsolePacket (d .sent)) .any) (b .returned) (a .copies))
   unfolding rules.no-room insideMeans
   nine-is =
-      ap (λ (x : rules.Asked (List ℕ)). line .copies && rules.no-room counted B (a .copies) x) (w .asks)
+      ap (λ (x : rules.Asked (List ℕ)). line .copies && rules.no-room numbering B (a .copies) x) (w .asks)
       ∙ exceed-is toConsolePacket (line .copies) (B .toConsole) (a .copies) (d .sent) (λ f. w .silent f (B .controller)) (k .well-formed .to-console-room)
       ∙ ap (λ (n : ℕ). not (roomFor (sentOf (Option·map toConsolePacket (d .sent)) .any) n (a .copies))) (packets-length to-console-coded (b .returned) back)
 
   -- ## Refused by the end, or for want of the packet
 
-  module _ {n : ℕ} (e : n ≡ refusal (ends.controller-rules counted (end (b .controller)) (act asked))) where
+  module _ {n : ℕ} (e : n ≡ refusal (ends.controller-rules numbering (end (b .controller)) (act asked))) where
     pub controller-refused : {r : Told} → (n ≡ 0 → ⊥) → r ≡ record { report = Refused n; message = spaces; after = b } → within r out back ≡ insideStep b out back line a
     controller-refused z q =
         let f = end-is ∙ sym e in

@@ -3,7 +3,7 @@ use Prim.Native.Nat.{ℕ}
 use mathlib.Core.Path.{sym}
 use mathlib.Core.List.{List}
 use Rattle.ground.specs.Cell.{isMessage}
-use Rattle.protocol.specs.Supply.{counted}
+use Rattle.protocol.specs.Supply.{numbering}
 use Rattle.protocol.specs.Letters.{Letter, P-put, Q-need, D-data, S-take, C-down, V-back, O-offer, K-ok, R-take, X-down, Y-back, L-lose, M-lose}
 use Rattle.protocol.specs.Bench as rules
 use Rattle.protocol.specs.WellFormed.{Well-formed, To-controller-ok, To-console-ok, Console-handed-ok, Controller-handed-ok}
@@ -15,21 +15,21 @@ use Rattle.bench.specs.declared.inside.Inside.{Inside}
 use Rattle.bench.proofs.Tables.{Holds}
 
 abbrev pub Handed : rules.Asked (List ℕ) → Type 0
-Handed (rules.Asked.console act) = Console-handed-ok counted act
-Handed (rules.Asked.controller act) = Controller-handed-ok counted isMessage act
+Handed (rules.Asked.console act) = Console-handed-ok numbering act
+Handed (rules.Asked.controller act) = Controller-handed-ok numbering isMessage act
 Handed rules.no-end = Unit {0}
 
-pub handed : (b : rules.Bench ℕ (List ℕ)) → Well-formed counted isMessage b → (l : Letter) (k : ℕ) (m : List ℕ) → Handed (rules.asks b l k m)
+pub handed : (b : rules.Bench ℕ (List ℕ)) → Well-formed numbering isMessage b → (l : Letter) (k : ℕ) (m : List ℕ) → Handed (rules.asks b l k m)
 unfolding rules.asks
 handed b w P-put k m = tt
 handed b w Q-need k m = tt
 handed b w D-data k m = tt
-handed b w S-take k m = all-at (To-console-ok counted) (b .toConsole) k (w .to-console)
+handed b w S-take k m = all-at (To-console-ok numbering) (b .toConsole) k (w .to-console)
 handed b w C-down k m = tt
 handed b w V-back k m = tt
 handed b w O-offer k m = tt
 handed b w K-ok k m = tt
-handed b w R-take k m = all-at (To-controller-ok counted isMessage) (b .toController) k (w .to-controller)
+handed b w R-take k m = all-at (To-controller-ok numbering isMessage) (b .toController) k (w .to-controller)
 handed b w X-down k m = tt
 handed b w Y-back k m = tt
 handed b w L-lose k m = tt

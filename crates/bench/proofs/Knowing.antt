@@ -14,7 +14,7 @@ use Rattle.ground.proofs.Tests.{and-left, and-right, and-both}
 use Rattle.wire.specs.declared.I.{I}
 use Rattle.wire.specs.declared.J.{J}
 use Rattle.wire.specs.declared.Direction.the-variants.{ToController, ToConsole}
-use Rattle.protocol.specs.Supply.{counted, largest}
+use Rattle.protocol.specs.Supply.{numbering, largest}
 use Rattle.protocol.specs.WellFormed.{Number, Console-ok, Controller-ok}
 use Rattle.ends.specs.Fields.{consoleOk, consoleMode, consoleWith, controllerOk, controllerMode, controllerWith}
 use Rattle.ends.specs.InRules.{consoleMeans, controllerMeans}
@@ -32,7 +32,7 @@ use Rattle.bench.specs.Within.{Known, insideMeans, insideOf, Typed}
 use Rattle.bench.specs.declared.Bench.{Bench}
 use Rattle.bench.specs.declared.inside.Inside.{Inside}
 
-number : (n : ℕ) → 0 < n → n < 2 ^ 32 → Number counted n
+number : (n : ℕ) → 0 < n → n < 2 ^ 32 → Number numbering n
 number n h k = and-both (leb 1 n) (leb n largest) (le-leb 1 n h) (le-leb n largest (omega (arith, k)))
 
 sound : (n : ℕ) → n < 2 ^ 32 → leb n largest ≡ true
@@ -41,7 +41,7 @@ sound n h = le-leb n largest (omega (arith, h))
 -- ## The ends
 
 abbrev pub ConsoleMeant : Console → Type 0
-ConsoleMeant c = c .used .0 < 2 ^ 32 → c .last .0 < 2 ^ 32 → Console-ok counted isMessage (consoleMeans c)
+ConsoleMeant c = c .used .0 < 2 ^ 32 → c .last .0 < 2 ^ 32 → Console-ok numbering isMessage (consoleMeans c)
 
 console-idle : (u : J) (up : Bool) → ConsoleMeant (consoleWith u console-mode.Idle up spaces)
 unfolding consoleMode if_then_else_
@@ -60,7 +60,7 @@ pub console-good : (c : Console) → length (c .message) ≡ 16 → consoleOk c 
 console-good c long ok = console-fields.by-mode ConsoleMeant console-idle console-needI console-send c long ok
 
 abbrev pub ControllerMeant : Controller → Type 0
-ControllerMeant c = controllerOk c ≡ true → c .used .0 < 2 ^ 32 → c .j .0 < 2 ^ 32 → Controller-ok counted (controllerMeans c)
+ControllerMeant c = controllerOk c ≡ true → c .used .0 < 2 ^ 32 → c .j .0 < 2 ^ 32 → Controller-ok numbering (controllerMeans c)
 
 controller-idle : (u : I) (up : Bool) → ControllerMeant (controllerWith u controller-mode.Idle up)
 unfolding controllerMode if_then_else_

@@ -1,8 +1,8 @@
 -- What a step leaves where the rules' bench stands: such a bench again, the same one on a refusal; 16 cells beside its report; and a refusal's number
 -- from 1 to 15.
 use Prim.Native.Nat.{ℕ, _≤_}
-use mathlib.Core.Path.{_≡_, refl, sym, ap, subst, _∙_}
-use mathlib.Core.Bool.{Bool, true, _&&_}
+use mathlib.Core.Path.{_≡_, refl, sym, ap, subst}
+use mathlib.Core.Bool.{Bool, true}
 use mathlib.Core.Option.{Option, none, some}
 use mathlib.Core.List.{List, [], _∷_, map}
 use native.Mathlib.Omega.{arith}
@@ -10,11 +10,10 @@ use borrow.Author.Tests.{eqb-true, leb-true}
 use lib.Dec.{eqb, leb}
 use lib.ListN.{length}
 use Rattle.ground.specs.Cell.{cells, isMessage}
-use Rattle.ground.specs.Choice.{if_then_else_}
 use Rattle.ground.specs.Every.{every}
 use Rattle.ground.specs.First.{Rule, first, applies, refusalOrder, refusal}
 use Rattle.ground.proofs.Tests.{and-left, and-right}
-use Rattle.protocol.specs.Supply.{counted}
+use Rattle.protocol.specs.Supply.{numbering}
 use Rattle.protocol.specs.Letters as letters
 use Rattle.protocol.specs.Letters.{Letter, letter}
 use Rattle.protocol.specs.Ends as ends
@@ -24,11 +23,13 @@ use Rattle.protocol.specs.WellFormed.{Well-formed, To-controller-ok}
 use Rattle.protocol.proofs.Bench.{step-refused, step-refused-same}
 use Rattle.protocol.proofs.Ends.{console-reports}
 use Rattle.protocol.proofs.Lists.{all-at, if-holds}
-use Rattle.protocol.proofs.Supply.{counted-lawful}
+use Rattle.protocol.proofs.Supply.{numbering-lawful}
 use Rattle.protocol.proofs.WellFormed.{step-well-formed}
 use Rattle.ends.specs.InRules.{delivered}
 use Rattle.ends.proofs.Telling.{number, refused-in-rules}
+use Rattle.ends.specs.declared.Report.{Report}
 use Rattle.ends.specs.declared.Report.the-variants as report
+use Rattle.bench.proofs.Reports.{TwoDigits}
 use Rattle.bench.specs.Means.{benchBack}
 use Rattle.bench.specs.Promise.{Result, benchRefused, benchTold, benchStep}
 use Rattle.bench.specs.Orders.{asRules}
@@ -47,7 +48,7 @@ message-long m h = eqb-true (length m) 16 (and-left (eqb (length m) 16) (cells m
 abbrev Reported : ends.ControllerTurn (List ℕ) → Type 0
 Reported t = Long (t .report)
 
-takes-long : (next : Option ℕ) (mode : ends.ControllerMode) (p : ends.ToController (List ℕ)) → To-controller-ok counted isMessage p → Reported (ends.controller-takes next mode p)
+takes-long : (next : Option ℕ) (mode : ends.ControllerMode) (p : ends.ToController (List ℕ)) → To-controller-ok numbering isMessage p → Reported (ends.controller-takes next mode p)
 unfolding ends.controller-takes
 takes-long none ends.ControllerMode.idle (ends.needI J) h = refl
 takes-long (some i) ends.ControllerMode.idle (ends.needI J) h = refl
@@ -60,16 +61,16 @@ takes-long next ends.ControllerMode.idle (ends.done I) h = refl
 takes-long next (ends.in-accept j i) (ends.done I) h = if-holds Reported _ _ _ (λ e. refl) (λ e. refl)
 takes-long next (ends.in-ack last) (ends.done I) h = if-holds Reported _ _ _ (λ e. refl) (λ e. refl)
 
-heard-long : (e : ends.Controller ℕ) (p : Option (ends.ToController (List ℕ))) → Opt (To-controller-ok counted isMessage) p → Long (ends.controller-acts counted e (ends.ControllerAct.take p) .report)
+heard-long : (e : ends.Controller ℕ) (p : Option (ends.ToController (List ℕ))) → Opt (To-controller-ok numbering isMessage) p → Long (ends.controller-acts numbering e (ends.ControllerAct.take p) .report)
 unfolding ends.controller-acts ends.controller-turn
 heard-long e none h = refl
-heard-long e (some p) h = takes-long (counted .next (e .numbers)) (e .mode) p h
+heard-long e (some p) h = takes-long (numbering .next (e .numbers)) (e .mode) p h
 
-told-long : (e : ends.Console ℕ (List ℕ)) (act : ends.ConsoleAct (List ℕ)) → Long (ends.console-acts counted e act .report)
-told-long e act = console-reports Long refl refl refl counted e act
+told-long : (e : ends.Console ℕ (List ℕ)) (act : ends.ConsoleAct (List ℕ)) → Long (ends.console-acts numbering e act .report)
+told-long e act = console-reports Long refl refl refl numbering e act
 
-module _ (b : rules.Bench ℕ (List ℕ)) (w : Well-formed counted isMessage b) where
-  effect-long : (l : Letter) (k n : ℕ) (m : List ℕ) → Long (rules.effect counted b (rules.action l k n m) .report)
+module _ (b : rules.Bench ℕ (List ℕ)) (w : Well-formed numbering isMessage b) where
+  effect-long : (l : Letter) (k n : ℕ) (m : List ℕ) → Long (rules.effect numbering b (rules.action l k n m) .report)
   unfolding rules.effect rules.does rules.asks rules.takes rules.taken-out ends.controller-acts ends.controller-turn
   effect-long letters.P-put k n m = told-long (b .console) _
   effect-long letters.Q-need k n m = told-long (b .console) _
@@ -85,7 +86,7 @@ module _ (b : rules.Bench ℕ (List ℕ)) (w : Well-formed counted isMessage b) 
   effect-long letters.L-lose k n m = refl
   effect-long letters.M-lose k n m = refl
 
-  step-long : (a : rules.Action (List ℕ)) → Long (rules.step counted isMessage b a .report)
+  step-long : (a : rules.Action (List ℕ)) → Long (rules.step numbering isMessage b a .report)
   unfolding rules.step
   step-long a =
       if-holds (λ (o : rules.Outcome ℕ (List ℕ)). Long (o .report)) _ _ _ (λ e. effect-long (a .letter) (a .place) (a .copies) (a .message)) (λ e. refl)
@@ -107,7 +108,7 @@ refusal-low rs = first-low (applies rs) refusalOrder refl
 
 pub record Leaves (b : rules.Bench ℕ (List ℕ)) (r : Result) : Type 0 where
   pub after : rules.Bench ℕ (List ℕ)
-  pub well-formed : Well-formed counted isMessage after
+  pub well-formed : Well-formed numbering isMessage after
   pub bench-is : r .outcome .bench ≡ benchBack after
   pub out-is : r .out ≡ out after
   pub back-is : r .back ≡ back after
@@ -115,7 +116,7 @@ pub record Leaves (b : rules.Bench ℕ (List ℕ)) (r : Result) : Type 0 where
   pub kept : (n : ℕ) → r .outcome .report ≡ report.Refused n → after ≡ b
   pub numbered : (n : ℕ) → r .outcome .report ≡ report.Refused n → (1 ≤ n) × (n ≤ 15)
 
-module _ (b : rules.Bench ℕ (List ℕ)) (w : Well-formed counted isMessage b) where
+module _ (b : rules.Bench ℕ (List ℕ)) (w : Well-formed numbering isMessage b) where
   refused-leaves : Leaves b (benchRefused 1 (benchBack b) (out b) (back b))
   unfolding benchRefused
   refused-leaves =
@@ -130,22 +131,22 @@ module _ (b : rules.Bench ℕ (List ℕ)) (w : Well-formed counted isMessage b) 
         numbered = λ n e. let q : 1 ≡ n = ap number e in (omega (arith, q), omega (arith, q));
       }
 
-  told-leaves : (a : rules.Action (List ℕ)) → Leaves b (benchTold (rules.step counted isMessage b a))
+  told-leaves : (a : rules.Action (List ℕ)) → Leaves b (benchTold (rules.step numbering isMessage b a))
   unfolding benchTold
   told-leaves a =
-      let o = rules.step counted isMessage b a in
+      let o = rules.step numbering isMessage b a in
       record {
         after = o .after;
-        well-formed = step-well-formed counted counted-lawful isMessage b a w;
+        well-formed = step-well-formed numbering numbering-lawful isMessage b a w;
         bench-is = refl;
         out-is = refl;
         back-is = refl;
         long = step-long b w a;
-        kept = λ n e. step-refused-same counted isMessage b a n (refused-in-rules (o .report) n e);
+        kept = λ n e. step-refused-same numbering isMessage b a n (refused-in-rules (o .report) n e);
         numbered =
             λ n e.
-            let q = step-refused counted isMessage b a n .0 (refused-in-rules (o .report) n e) in
-            let low = refusal-low (rules.rules-of counted isMessage b a) in
+            let q = step-refused numbering isMessage b a n .0 (refused-in-rules (o .report) n e) in
+            let low = refusal-low (rules.rules-of numbering isMessage b a) in
             (omega (arith, q .1), omega (arith, q .0, low));
       }
 
@@ -155,3 +156,14 @@ module _ (b : rules.Bench ℕ (List ℕ)) (w : Well-formed counted isMessage b) 
       of-letter : (o : Option Letter) → letter (a .letter) ≡ o → Leaves b (benchStep (benchBack b) a (out b) (back b))
       of-letter none e = subst (Leaves b) (sym (step-none b a e)) refused-leaves
       of-letter (some l) e = subst (Leaves b) (sym (step-of b w a l e)) (told-leaves (asRules l a))
+
+-- so that its two cells in a line are those of no other report (records/proofs/Reports.antt)
+two-digits : (r : Report) → ((n : ℕ) → r ≡ report.Refused n → (1 ≤ n) × (n ≤ 15)) → TwoDigits r
+two-digits report.Nothing h = tt
+two-digits report.Delivered h = tt
+two-digits report.Ok h = tt
+two-digits report.Lost h = tt
+two-digits (report.Refused n) h = let k = h n refl .1 in omega (arith, k)
+
+pub step-two-digits : (b : rules.Bench ℕ (List ℕ)) → Well-formed numbering isMessage b → (a : Action) → TwoDigits (benchStep (benchBack b) a (out b) (back b) .outcome .report)
+step-two-digits b w a = two-digits _ (step-leaves b w a .numbered)

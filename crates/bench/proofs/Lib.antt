@@ -10,12 +10,14 @@ pub mod Echoes
 pub mod Handing
 pub mod Knowing
 pub mod Leaving
+pub mod ListVectors
 pub mod Listed
 pub mod Losing
 pub mod Orders
 pub mod Playing
 pub mod Refusals
 pub mod Refusing
+pub mod Reports
 pub mod Rooms
 pub mod Running
 pub mod Standing
@@ -25,3 +27,4 @@ pub mod Tables
 pub mod Untouched
 pub mod Vectors
 pub mod Wrong
+pub mod WrongCells

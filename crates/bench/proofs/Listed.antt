@@ -1,7 +1,6 @@
 -- Demand 3 of the list program, of what `bench::run` itself promises.
-use Prim.Native.Nat.{ℕ, suc, _+_, _*_}
+use Prim.Native.Nat.{ℕ, suc, _*_}
 use mathlib.Core.Path.{_≡_, refl, sym, ap, ap₂, subst, _∙_}
-use mathlib.Core.Bool.{true, false}
 use mathlib.Core.Option.{Option, none, some}
 use mathlib.Core.List.{List, [], _∷_, _++_, map, append-assoc}
 use native.Mathlib.Omega.{arith}
@@ -14,11 +13,11 @@ use lib.Seq.{take-at, drop-at}
 use Rattle.ground.specs.Cell.{isMessage}
 use Rattle.ground.specs.Choice.{if_then_else_}
 use Rattle.ground.proofs.Tests.{by-test}
-use Rattle.wire.specs.Frame.{field}
-use Rattle.protocol.specs.Supply.{counted}
+use Rattle.ground.specs.Bytes.{field}
+use Rattle.protocol.specs.Supply.{numbering}
 use Rattle.protocol.specs.Letters.{Letter, line, letters, among, letter}
 use Rattle.protocol.specs.Bench as rules
-use Rattle.protocol.specs.Log.{Event, Delivered}
+use Rattle.protocol.specs.Log.{Event}
 use Rattle.protocol.specs.Plain.{Plain}
 use Rattle.protocol.specs.Demand3.{written}
 use Rattle.protocol.specs.WellFormed.{Well-formed}
@@ -26,42 +25,39 @@ use Rattle.protocol.proofs.Letters.{letter-of}
 use Rattle.protocol.proofs.Plain.{right-plain}
 use Rattle.protocol.proofs.WellFormed.{fresh-well-formed}
 use Rattle.letters.specs.Lines.{lineOf, foundOf}
-use Rattle.letters.specs.declared.Found.{Found}
-use Rattle.letters.specs.declared.Found.the-variants as found
 use Rattle.ends.specs.declared.Report.{Report}
 use Rattle.ends.specs.declared.Report.the-variants as report
-use Rattle.records.specs.Line.{reportCells, cellsSay, lineBytes}
-use Rattle.records.specs.Record.{listRecord, wellFormed, fields, illFormed}
-use Rattle.records.specs.declared.Record.{Record}
-use Rattle.records.proofs.Reports.{said, refusal-said, line-letter, line-says, line-message, line-long}
+use Rattle.listing.specs.Record.{listRecord, wellFormed, fields, illFormed}
 use Rattle.channels.specs.Table.{laid, channel}
 use Rattle.bench.specs.Means.{benchBack}
 use Rattle.bench.specs.Promise.{Result, benchRefused, benchTold, benchStep, benchFresh, freshRules}
-use Rattle.bench.specs.Running.{recordsOf, playedAs, played, lines, limitOf, listLines, Ran, listRun}
+use Rattle.bench.specs.Reports.{reportCells, cellsSay, reportLine}
+use Rattle.bench.specs.Running.{recordsOf, usesOf, actionAs, listAction, playedAs, played, lines, limitOf, listLines, Ran, listRun}
 use Rattle.bench.specs.Orders.{outcomes, freshOutcomes, shownBy, allShown, Rows, rowsOf}
-use Rattle.bench.specs.Listed.{actionAs, actionOf, recordsIn, actionsIn, linesOf, lineShows, linesShow, j₀, i₀, clear, ListRight}
+use Rattle.bench.specs.Listed.{actionOr, actionOf, recordsIn, actionsIn, linesOf, lineShows, linesShow, j₀, i₀, clear, ListRight}
 use Rattle.bench.specs.declared.Action.{Action}
 use Rattle.bench.specs.declared.Bench.{Bench}
 use Rattle.bench.specs.declared.Outcome.{Outcome}
-use Rattle.bench.proofs.Leaving.{Leaves, step-leaves}
+use Rattle.bench.proofs.Leaving.{step-leaves}
 use Rattle.bench.proofs.Orders.{out, back, orders-right}
+use Rattle.bench.proofs.Reports.{said, refusal-said, line-letter, line-says, line-message, line-long}
 use Rattle.bench.proofs.runner.run.Kinds as run-kinds
 use Rattle.bench.proofs.runner.run.Reads as run
 
 -- ## A record is played as the step plays its action
 
-played-as : (f : Found) (r : Record) (b : Bench) (out back : List ℕ) → playedAs f r b out back ≡ benchStep b (actionAs f r) out back
+played-as : (o : Option Action) (b : Bench) (out back : List ℕ) → playedAs o b out back ≡ benchStep b (actionOr o) out back
 unfolding benchStep letter letters among line if_then_else_
-played-as found.Nothing r b out back = refl
-played-as (found.Line l) r b out back = refl
+played-as none b out back = refl
+played-as (some a) b out back = refl
 
 lines-are : (k : ℕ) (b : Bench) (out back : List ℕ) (ss : List (List ℕ)) → lines k b out back ss ≡ linesOf k ss (outcomes b out back (map actionOf ss))
 unfolding lines played outcomes linesOf
 lines-are k b out back [] = refl
 lines-are k b out back (s ∷ ss) =
     let r = benchStep b (actionOf s) out back in
-    ap (λ (x : Result). lineBytes k (getD s 0 0) (x .outcome .report) (x .outcome .message) ++ lines (suc k) (x .outcome .bench) (x .out) (x .back) ss) (played-as (listRecord s .found) (listRecord s) b out back)
-    ∙ ap (λ (l : List ℕ). lineBytes k (getD s 0 0) (r .outcome .report) (r .outcome .message) ++ l) (lines-are (suc k) (r .outcome .bench) (r .out) (r .back) ss)
+    ap (λ (x : Result). reportLine k (getD s 0 0) (x .outcome .report) (x .outcome .message) ++ lines (suc k) (x .outcome .bench) (x .out) (x .back) ss) (played-as (listAction s) b out back)
+    ∙ ap (λ (l : List ℕ). reportLine k (getD s 0 0) (r .outcome .report) (r .outcome .message) ++ l) (lines-are (suc k) (r .outcome .bench) (r .out) (r .back) ss)
 
 list-lines : (n : ℕ) (s : List ℕ) → listLines n s ≡ linesOf 1 (recordsOf n s) (freshOutcomes j₀ i₀ clear clear (map actionOf (recordsOf n s)))
 unfolding listLines freshOutcomes benchFresh benchTold rules.fresh channel laid if_then_else_
@@ -74,26 +70,26 @@ abbrev OwnAction : List ℕ → Action → Type 0
 OwnAction s a = (letter (getD s 0 0) ≡ letter (a .letter)) × (field s 4 16 ≡ a .message)
 
 module _ (s : List ℕ) (b : Bench) (out back : List ℕ) where
-  abbrev Owns : Record → Type 0
-  Owns r = benchStep b (actionAs (r .found) r) out back .outcome .report ≡ report.Nothing → OwnAction s (actionAs (r .found) r)
+  abbrev Owns : Option Action → Type 0
+  Owns o = benchStep b (actionOr o) out back .outcome .report ≡ report.Nothing → OwnAction s (actionOr o)
 
-  none-owns : (r : Record) → r .found ≡ found.Nothing → Owns r
+  none-owns : Owns none
   unfolding benchStep benchRefused letter letters among line if_then_else_
-  none-owns r f e = let g = rw f at e in absurd (let z : _≡_ {A = ℕ} 0 1 = cc in omega (arith, z))
+  none-owns e = absurd (let z : _≡_ {A = ℕ} 0 1 = cc in omega (arith, z))
 
-  fields-own : (o : Option Letter) → letter (getD s 0 0) ≡ o → Owns (fields (foundOf o) s)
-  unfolding fields lineOf
-  fields-own none e = none-owns (fields found.Nothing s) refl
-  fields-own (some l) e = λ _. (e ∙ sym (letter-of l), refl)
+  letter-owns : (o : Option Letter) → letter (getD s 0 0) ≡ o → Owns (actionAs (foundOf o) s)
+  unfolding listRecord fields illFormed lineOf if_then_else_
+  letter-owns none e = none-owns
+  letter-owns (some l) e =
+      by-test (wellFormed (usesOf (lineOf l)) s) (λ t. rw t (λ _. (e ∙ sym (letter-of l), refl))) (λ f. rw f none-owns)
 
-  record-owns : Owns (listRecord s)
-  unfolding listRecord illFormed if_then_else_
-  record-owns =
-      by-test (wellFormed s) (λ t. rw t (fields-own (letter (getD s 0 0)) refl)) (λ f. rw f (none-owns illFormed refl))
+  record-owns : Owns (listAction s)
+  unfolding listAction
+  record-owns = letter-owns (letter (getD s 0 0)) refl
 
 module _ (k : ℕ) (s m : List ℕ) (long : length m ≡ 16) where
   abbrev bytes : Report → List ℕ
-  bytes r = lineBytes k (getD s 0 0) r m
+  bytes r = reportLine k (getD s 0 0) r m
 
   -- the action as it is read
   abbrev read : Report → Action
@@ -117,14 +113,14 @@ module _ (k : ℕ) (s m : List ℕ) (long : length m ≡ 16) where
 abbrev outcomesFrom : rules.Bench ℕ (List ℕ) → List (List ℕ) → List Outcome
 outcomesFrom b ss = outcomes (benchBack b) (out b) (back b) (map actionOf ss)
 
-all-shown : (k : ℕ) (b : rules.Bench ℕ (List ℕ)) → Well-formed counted isMessage b → (ss : List (List ℕ)) (rest : List ℕ)
+all-shown : (k : ℕ) (b : rules.Bench ℕ (List ℕ)) → Well-formed numbering isMessage b → (ss : List (List ℕ)) (rest : List ℕ)
     → (linesShow ss (linesOf k ss (outcomesFrom b ss) ++ rest) ≡ allShown (map actionOf ss) (outcomesFrom b ss)) × (length (linesOf k ss (outcomesFrom b ss)) ≡ 27 * length ss)
 unfolding linesShow linesOf outcomes allShown
 all-shown k b w [] rest = (refl, refl)
 all-shown k b w (s ∷ ss) rest =
     let r = benchStep (benchBack b) (actionOf s) (out b) (back b) in
     let v = step-leaves b w (actionOf s) in
-    let x = lineBytes k (getD s 0 0) (r .outcome .report) (r .outcome .message) in
+    let x = reportLine k (getD s 0 0) (r .outcome .report) (r .outcome .message) in
     let os = outcomes (r .outcome .bench) (r .out) (r .back) (map actionOf ss) in
     let next : os ≡ outcomesFrom (v .after) ss = λ i. outcomes (v .bench-is i) (v .out-is i) (v .back-is i) (map actionOf ss) in
     let more = all-shown (suc k) (v .after) (v .well-formed) ss rest in
@@ -153,8 +149,8 @@ module _ (input before : List ℕ) where
   abbrev all : List ℕ
   all = linesOf 1 records told
 
-  fresh-ok : Well-formed counted isMessage (freshRules j₀ i₀)
-  fresh-ok = fresh-well-formed counted isMessage 0 0 refl refl
+  fresh-ok : Well-formed numbering isMessage (freshRules j₀ i₀)
+  fresh-ok = fresh-well-formed numbering isMessage 0 0 refl refl
 
   lines-shown : (rest : List ℕ) → (linesShow records (all ++ rest) ≡ allShown (actionsIn input before) told) × (length all ≡ 27 * length records)
   unfolding freshOutcomes benchFresh benchTold if_then_else_

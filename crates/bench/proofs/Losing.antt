@@ -10,12 +10,12 @@ use Rattle.ground.specs.Choice.{if_then_else_}
 use Rattle.ground.specs.First.{refusal, first, applies}
 use Rattle.wire.specs.declared.Direction.{Direction}
 use Rattle.wire.specs.declared.Direction.the-variants.{ToController, ToConsole}
-use Rattle.protocol.specs.Supply.{counted}
+use Rattle.protocol.specs.Supply.{numbering}
 use Rattle.protocol.specs.Ends as ends
 use Rattle.protocol.specs.Bench as rules
 use Rattle.protocol.specs.WellFormed.{Well-formed}
 use Rattle.protocol.proofs.Stages.{staged-3, staged-0, step-does}
-use Rattle.protocol.proofs.Supply.{counted-lawful}
+use Rattle.protocol.proofs.Supply.{numbering-lawful}
 use Rattle.protocol.proofs.WellFormed.{step-well-formed}
 use Rattle.letters.specs.Lines.{letterMeans}
 use Rattle.letters.specs.declared.Line.{Line}
@@ -40,17 +40,17 @@ module _ (b : Inside) (out back : List ℕ) (line : Line) (a : Action) (way : Di
   abbrev B : rules.Bench ℕ (List ℕ)
   B = insideMeans b out back
 
-  end-is : refusal (rules.end-rules counted isMessage B (asksOf b out back line a)) ≡ 0
+  end-is : refusal (rules.end-rules numbering isMessage B (asksOf b out back line a)) ≡ 0
   unfolding rules.end-rules refusal first applies if_then_else_
-  end-is = ap (λ (x : rules.Asked (List ℕ)). refusal (rules.end-rules counted isMessage B x)) (w .asks)
+  end-is = ap (λ (x : rules.Asked (List ℕ)). refusal (rules.end-rules numbering isMessage B x)) (w .asks)
 
   silent : (flag : Bool) → (flag && false) ≡ false
   silent true = refl
   silent false = refl
 
-  nine-is : (line .copies && rules.no-room counted B (a .copies) (asksOf b out back line a)) ≡ false
+  nine-is : (line .copies && rules.no-room numbering B (a .copies) (asksOf b out back line a)) ≡ false
   unfolding rules.no-room
-  nine-is = ap (λ (x : rules.Asked (List ℕ)). line .copies && rules.no-room counted B (a .copies) x) (w .asks) ∙ silent (line .copies)
+  nine-is = ap (λ (x : rules.Asked (List ℕ)). line .copies && rules.no-room numbering B (a .copies) x) (w .asks) ∙ silent (line .copies)
 
   missing-is : (d : Direction) → rules.missing (lostFrom d) B (a .place) ≡ leb (counted-in b d) (a .place)
   unfolding rules.missing insideMeans
@@ -70,21 +70,21 @@ module _ (b : Inside) (out back : List ℕ) (line : Line) (a : Action) (way : Di
   lost ToController = record { console = B .console; controller = B .controller; toController = left (line .place) (B .toController) (a .place); toConsole = B .toConsole }
   lost ToConsole = record { console = B .console; controller = B .controller; toController = B .toController; toConsole = left (line .place) (B .toConsole) (a .place) }
 
-  taken-does : (d : Direction) → rules.does counted (rules.taken-out (lostFrom d) B (a .place)) (a .copies) rules.no-end ≡ record { report = ends.nothing; after = lost d }
+  taken-does : (d : Direction) → rules.does numbering (rules.taken-out (lostFrom d) B (a .place)) (a .copies) rules.no-end ≡ record { report = ends.nothing; after = lost d }
   unfolding rules.does rules.taken-out left if_then_else_
   taken-does ToController = rw (w .place)
   taken-does ToConsole = rw (w .place)
 
-  step-is : {p : Bool} → p ≡ (line .place && leb (counted-in b way) (a .place)) → p ≡ false → rules.step counted isMessage B (actionOf line a) ≡ record { report = ends.nothing; after = lost way }
+  step-is : {p : Bool} → p ≡ (line .place && leb (counted-in b way) (a .place)) → p ≡ false → rules.step numbering isMessage B (actionOf line a) ≡ record { report = ends.nothing; after = lost way }
   unfolding rules.effect actionOf
   step-is p f =
-      step-does counted isMessage B (actionOf line a) (stages b out back line a (w .lined) ∙ staged-0 _ _ _ _ (w .few) end-is (three-is ∙ sym p ∙ f) nine-is)
-      ∙ (λ i. rules.does counted (rules.taken-out (w .takes i) B (a .place)) (a .copies) (w .asks i))
+      step-does numbering isMessage B (actionOf line a) (stages b out back line a (w .lined) ∙ staged-0 _ _ _ _ (w .few) end-is (three-is ∙ sym p ∙ f) nine-is)
+      ∙ (λ i. rules.does numbering (rules.taken-out (w .takes i) B (a .place)) (a .copies) (w .asks i))
       ∙ taken-does way
 
-  after-ok : {p : Bool} → p ≡ (line .place && leb (counted-in b way) (a .place)) → p ≡ false → Well-formed counted isMessage (lost way)
+  after-ok : {p : Bool} → p ≡ (line .place && leb (counted-in b way) (a .place)) → p ≡ false → Well-formed numbering isMessage (lost way)
   after-ok p f =
-      subst (λ (o : rules.Outcome ℕ (List ℕ)). Well-formed counted isMessage (o .after)) (step-is p f) (step-well-formed counted counted-lawful isMessage B (actionOf line a) (k .well-formed))
+      subst (λ (o : rules.Outcome ℕ (List ℕ)). Well-formed numbering isMessage (o .after)) (step-is p f) (step-well-formed numbering numbering-lawful isMessage B (actionOf line a) (k .well-formed))
 
   -- ## The ways
 
@@ -103,7 +103,7 @@ module _ (b : Inside) (out back : List ℕ) (line : Line) (a : Action) (way : Di
   unfolding within insideStep withinTold insideMeans
   out-lost {p} {n} {out′} v q f t h =
       let q′ = q ∙ ap (λ (d : Direction). line .place && leb (counted-in b d) (a .place)) (sym v) in
-      let wf : Well-formed counted isMessage (lost ToController) = subst (λ (d : Direction). Well-formed counted isMessage (lost d)) v (after-ok q′ f) in
+      let wf : Well-formed numbering isMessage (lost ToController) = subst (λ (d : Direction). Well-formed numbering isMessage (lost d)) v (after-ok q′ f) in
       let takes = taking to-controller-coded (line .place) (a .place) (out-held b out back k) in
       let outs = t .1 ∙ takes .0 in
       let now-out : Holds to-controller-coded (lost ToController .toController) out′ n = record { table = outs; number = t .0 ∙ takes .1; good = wf .to-controller; room = wf .to-controller-room } in
@@ -126,7 +126,7 @@ module _ (b : Inside) (out back : List ℕ) (line : Line) (a : Action) (way : Di
   unfolding within insideStep withinTold insideMeans
   back-lost {p} {n} {back′} v q f t h =
       let q′ = q ∙ ap (λ (d : Direction). line .place && leb (counted-in b d) (a .place)) (sym v) in
-      let wf : Well-formed counted isMessage (lost ToConsole) = subst (λ (d : Direction). Well-formed counted isMessage (lost d)) v (after-ok q′ f) in
+      let wf : Well-formed numbering isMessage (lost ToConsole) = subst (λ (d : Direction). Well-formed numbering isMessage (lost d)) v (after-ok q′ f) in
       let takes = taking to-console-coded (line .place) (a .place) (back-held b out back k) in
       let backs = t .1 ∙ takes .0 in
       let now-back : Holds to-console-coded (lost ToConsole .toConsole) back′ n = record { table = backs; number = t .0 ∙ takes .1; good = wf .to-console; room = wf .to-console-room } in

@@ -11,7 +11,7 @@ use Rattle.ground.specs.Cell.{isMessage}
 use Rattle.ground.specs.Choice.{if_then_else_}
 use Rattle.wire.specs.declared.I.{I}
 use Rattle.wire.specs.declared.J.{J}
-use Rattle.protocol.specs.Supply.{counted, largest}
+use Rattle.protocol.specs.Supply.{numbering, largest}
 use Rattle.protocol.specs.Letters.{Letter, line, letter}
 use Rattle.protocol.proofs.Letters.{letter-of}
 use Rattle.ends.specs.declared.Report.{Report}
@@ -25,7 +25,7 @@ use Rattle.protocol.specs.Demand3.{row, write, labelled-step, row-of, written, 
 use Rattle.protocol.specs.Demand3 as protocol
 use Rattle.protocol.specs.WellFormed.{Well-formed}
 use Rattle.protocol.proofs.Demand3.{bare, row-shown, bare-step, demand3-messages}
-use Rattle.protocol.proofs.Supply.{counted-lawful}
+use Rattle.protocol.proofs.Supply.{numbering-lawful}
 use Rattle.protocol.proofs.WellFormed.{step-well-formed, fresh-well-formed}
 use Rattle.ends.specs.Means.{reportBack}
 use Rattle.ends.specs.InRules.{delivered}
@@ -47,8 +47,8 @@ abbrev pub back : rules.Bench ℕ (List ℕ) → List ℕ
 back b = channel toConsoleBytes (b .toConsole)
 
 -- where the rules' bench stands, the promise's step is the rules' step
-pub step-of : (b : rules.Bench ℕ (List ℕ)) → Well-formed counted isMessage b → (a : Action) (l : Letter) → letter (a .letter) ≡ some l
-    → benchStep (benchBack b) a (out b) (back b) ≡ benchTold (rules.step counted isMessage b (asRules l a))
+pub step-of : (b : rules.Bench ℕ (List ℕ)) → Well-formed numbering isMessage b → (a : Action) (l : Letter) → letter (a .letter) ≡ some l
+    → benchStep (benchBack b) a (out b) (back b) ≡ benchTold (rules.step numbering isMessage b (asRules l a))
 unfolding benchStep if_then_else_
 step-of b w a l e = rw (e, stands-ok b w, stands-for b w)
 
@@ -57,12 +57,12 @@ unfolding benchStep
 step-none b a e = rw e
 
 -- well-formedness is kept: what a step leaves passes the check again
-pub step-keeps : (b : rules.Bench ℕ (List ℕ)) → Well-formed counted isMessage b → (a : Action) (l : Letter) → letter (a .letter) ≡ some l
+pub step-keeps : (b : rules.Bench ℕ (List ℕ)) → Well-formed numbering isMessage b → (a : Action) (l : Letter) → letter (a .letter) ≡ some l
     → let r = benchStep (benchBack b) a (out b) (back b) in benchOk (r .outcome .bench) (r .out) (r .back) ≡ true
 unfolding benchTold
 step-keeps b w a l e =
-    let o = rules.step counted isMessage b (asRules l a) in
-    ap (λ (r : Result). benchOk (r .outcome .bench) (r .out) (r .back)) (step-of b w a l e) ∙ stands-ok (o .after) (step-well-formed counted counted-lawful isMessage b (asRules l a) w)
+    let o = rules.step numbering isMessage b (asRules l a) in
+    ap (λ (r : Result). benchOk (r .outcome .bench) (r .out) (r .back)) (step-of b w a l e) ∙ stands-ok (o .after) (step-well-formed numbering numbering-lawful isMessage b (asRules l a) w)
 
 -- what the outcome shows is what the rules' report shows
 same-shown : (a : Action) (l : Letter) → letter (a .letter) ≡ some l → (r : ends.Report (List ℕ)) → shown (asRules l a) r ≡ shownBy a (reportBack r) (delivered r)
@@ -84,15 +84,15 @@ actionsIn [] = []
 actionsIn (a ∷ l) = actionsFrom (letter (a .letter)) a (actionsIn l)
 
 -- the log is that of the rules' run
-same-log : (past : Log (List ℕ)) (b : Labels) (l : List Action) → written (rowsOf past b l) past ≡ written (protocol.rows counted isMessage past b (actionsIn l)) past
+same-log : (past : Log (List ℕ)) (b : Labels) (l : List Action) → written (rowsOf past b l) past ≡ written (protocol.rows numbering isMessage past b (actionsIn l)) past
 unfolding rowsOf actionsIn written protocol.rows
 same-log past b [] = refl
 same-log past b (a ∷ l) = by (letter (a .letter)) (λ p c. same-log p c l)
   where
-    by : (o : Option Letter) → ((p : Log (List ℕ)) (c : Labels) → written (rowsOf p c l) p ≡ written (protocol.rows counted isMessage p c (actionsIn l)) p)
-        → written (rowsFrom o a past b (λ p c. rowsOf p c l)) past ≡ written (protocol.rows counted isMessage past b (actionsFrom o a (actionsIn l))) past
+    by : (o : Option Letter) → ((p : Log (List ℕ)) (c : Labels) → written (rowsOf p c l) p ≡ written (protocol.rows numbering isMessage p c (actionsIn l)) p)
+        → written (rowsFrom o a past b (λ p c. rowsOf p c l)) past ≡ written (protocol.rows numbering isMessage past b (actionsFrom o a (actionsIn l))) past
     by none more = more past b
-    by (some x) more = more (write (row-of counted isMessage past b (asRules x a)) past) (labelled-step counted isMessage past b (asRules x a) .after)
+    by (some x) more = more (write (row-of numbering isMessage past b (asRules x a)) past) (labelled-step numbering isMessage past b (asRules x a) .after)
 
 -- without the numbers its rows are what the step's outcomes show
 abbrev Shows : Log (List ℕ) → Labels → List Action → Type 0
@@ -104,8 +104,8 @@ Shows past b l =
 abbrev after : Action → List Action → Result → Rows
 after a l r = shownBy a (r .outcome .report) (r .outcome .message) ∷ allShown l (outcomes (r .outcome .bench) (r .out) (r .back) l)
 
-one-shows : (past : Log (List ℕ)) (b : Labels) (a : Action) (l : List Action) → Well-formed counted isMessage (in-bench bare b) → (o : Option Letter) → letter (a .letter) ≡ o
-    → ((p : Log (List ℕ)) (d : Labels) → Well-formed counted isMessage (in-bench bare d) → Shows p d l)
+one-shows : (past : Log (List ℕ)) (b : Labels) (a : Action) (l : List Action) → Well-formed numbering isMessage (in-bench bare b) → (o : Option Letter) → letter (a .letter) ≡ o
+    → ((p : Log (List ℕ)) (d : Labels) → Well-formed numbering isMessage (in-bench bare d) → Shows p d l)
     → let c = in-bench bare b in map (Option·map unnumbered) (rowsFrom o a past b (λ p d. rowsOf p d l)) ≡ after a l (benchStep (benchBack c) a (out c) (back c))
 unfolding benchRefused benchTold
 one-shows past b a l w none e more =
@@ -113,17 +113,17 @@ one-shows past b a l w none e more =
 one-shows past b a l w (some x) e more =
     let c = in-bench bare b in
     let act = asRules x a in
-    let labelled = labelled-step counted isMessage past b act in
-    let o = rules.step counted isMessage c act in
-    let same : o ≡ in-outcome bare labelled = bare-step counted isMessage past b act in
-    let ok : Well-formed counted isMessage (in-bench bare (labelled .after)) = subst (λ (z : rules.Outcome ℕ (List ℕ)). Well-formed counted isMessage (z .after)) same (step-well-formed counted counted-lawful isMessage c act w) in
+    let labelled = labelled-step numbering isMessage past b act in
+    let o = rules.step numbering isMessage c act in
+    let same : o ≡ in-outcome bare labelled = bare-step numbering isMessage past b act in
+    let ok : Well-formed numbering isMessage (in-bench bare (labelled .after)) = subst (λ (z : rules.Outcome ℕ (List ℕ)). Well-formed numbering isMessage (z .after)) same (step-well-formed numbering numbering-lawful isMessage c act w) in
     ap₂ (λ (y : Option (Event (List ℕ))) (z : Rows). y ∷ z)
     (row-shown (suc (put-count past)) (held-label (b .console .mode)) act (labelled .report) ∙ same-shown a x e (in-report bare (labelled .report)))
-    (more (write (row-of counted isMessage past b act) past) (labelled .after) ok)
+    (more (write (row-of numbering isMessage past b act) past) (labelled .after) ok)
     ∙ ap (λ (z : rules.Outcome ℕ (List ℕ)). after a l (benchTold z)) (sym same)
     ∙ ap (after a l) (sym (step-of c w a x e))
 
-same-shows : (past : Log (List ℕ)) (b : Labels) (l : List Action) → Well-formed counted isMessage (in-bench bare b) → Shows past b l
+same-shows : (past : Log (List ℕ)) (b : Labels) (l : List Action) → Well-formed numbering isMessage (in-bench bare b) → Shows past b l
 unfolding rowsOf outcomes allShown
 same-shows past b [] w = refl
 same-shows past b (a ∷ l) w = one-shows past b a l w (letter (a .letter)) refl (λ p c v. same-shows p c l v)
@@ -138,8 +138,8 @@ module _ (j : J) (i : I) (out₀ back₀ : List ℕ) (p : j .0 < 2 ^ 32) (q : i 
   unfolding benchFresh if_then_else_
   fresh-is = rw (eq-eqb (length out₀) 2048 m, eq-eqb (length back₀) 2048 n)
 
-  fresh-ok : Well-formed counted isMessage (freshRules j i)
-  fresh-ok = fresh-well-formed counted isMessage (j .0) (i .0) (le-leb (j .0) largest (omega (arith, p))) (le-leb (i .0) largest (omega (arith, q)))
+  fresh-ok : Well-formed numbering isMessage (freshRules j i)
+  fresh-ok = fresh-well-formed numbering isMessage (j .0) (i .0) (le-leb (j .0) largest (omega (arith, p))) (le-leb (i .0) largest (omega (arith, q)))
 
   -- the step's deliveries and answers are as demand 3 says
   pub orders-right : OrdersRight j i out₀ back₀ l
@@ -167,19 +167,19 @@ told o = (o .report, o .message)
 abbrev pub toldOf : ends.Report (List ℕ) → Report × List ℕ
 toldOf r = (reportBack r, delivered r)
 
-pub reports-are : (b : rules.Bench ℕ (List ℕ)) → Well-formed counted isMessage b → (l : List (rules.Action (List ℕ)))
-    → map told (outcomes (benchBack b) (out b) (back b) (map coded l)) ≡ map toldOf (rules.reports counted isMessage b l)
+pub reports-are : (b : rules.Bench ℕ (List ℕ)) → Well-formed numbering isMessage b → (l : List (rules.Action (List ℕ)))
+    → map told (outcomes (benchBack b) (out b) (back b) (map coded l)) ≡ map toldOf (rules.reports numbering isMessage b l)
 unfolding outcomes rules.reports benchTold
 reports-are b w [] = refl
 reports-are b w (a ∷ l) =
-    let o = rules.step counted isMessage b a in
+    let o = rules.step numbering isMessage b a in
     ap (λ (r : Result). told (r .outcome) ∷ map told (outcomes (r .outcome .bench) (r .out) (r .back) (map coded l))) (step-of b w (coded a) (a .letter) (letter-of (a .letter)))
-    ∙ ap (λ (rs : List (Report × List ℕ)). toldOf (o .report) ∷ rs) (reports-are (o .after) (step-well-formed counted counted-lawful isMessage b a w) l)
+    ∙ ap (λ (rs : List (Report × List ℕ)). toldOf (o .report) ∷ rs) (reports-are (o .after) (step-well-formed numbering numbering-lawful isMessage b a w) l)
 
-pub leaves-are : (b : rules.Bench ℕ (List ℕ)) → Well-formed counted isMessage b → (l : List (rules.Action (List ℕ)))
-    → let c = rules.run counted isMessage b l in leaves (benchBack b) (out b) (back b) (map coded l) ≡ (benchBack c, out c, back c)
+pub leaves-are : (b : rules.Bench ℕ (List ℕ)) → Well-formed numbering isMessage b → (l : List (rules.Action (List ℕ)))
+    → let c = rules.run numbering isMessage b l in leaves (benchBack b) (out b) (back b) (map coded l) ≡ (benchBack c, out c, back c)
 unfolding leaves rules.run benchTold
 leaves-are b w [] = refl
 leaves-are b w (a ∷ l) =
     ap (λ (r : Result). leaves (r .outcome .bench) (r .out) (r .back) (map coded l)) (step-of b w (coded a) (a .letter) (letter-of (a .letter)))
-    ∙ leaves-are (rules.step counted isMessage b a .after) (step-well-formed counted counted-lawful isMessage b a w) l
+    ∙ leaves-are (rules.step numbering isMessage b a .after) (step-well-formed numbering numbering-lawful isMessage b a w) l

@@ -13,7 +13,7 @@ use Rattle.ground.specs.Choice.{if_then_else_}
 use Rattle.ground.specs.First.{refusal}
 use Rattle.ground.proofs.Tests.{by-test}
 use Rattle.wire.specs.declared.Packet.{Packet}
-use Rattle.protocol.specs.Supply.{counted}
+use Rattle.protocol.specs.Supply.{numbering}
 use Rattle.protocol.specs.Ends.{absent}
 use Rattle.protocol.specs.Bench as rules
 use Rattle.protocol.proofs.Stages.{staged, staged-10, in-stages, step-refuses}
@@ -65,18 +65,18 @@ module _ (b : Inside) (out back : List ℕ) (line : Line) (a : Action) where
   B = insideMeans b out back
 
   abbrev pub number : ℕ
-  number = refusal (rules.rules-of counted isMessage B (actionOf line a))
+  number = refusal (rules.rules-of numbering isMessage B (actionOf line a))
 
   -- in stages, with the flags of the line at hand
   pub stages : Lined line → number
-      ≡ staged (line .copies && ltb 3 (a .copies)) (refusal (rules.end-rules counted isMessage B (asksOf b out back line a)))
-      (line .place && rules.missing (rules.takes (letterMeans (line .letter))) B (a .place)) (line .copies && rules.no-room counted B (a .copies) (asksOf b out back line a))
+      ≡ staged (line .copies && ltb 3 (a .copies)) (refusal (rules.end-rules numbering isMessage B (asksOf b out back line a)))
+      (line .place && rules.missing (rules.takes (letterMeans (line .letter))) B (a .place)) (line .copies && rules.no-room numbering B (a .copies) (asksOf b out back line a))
   unfolding actionOf Lined lineOf
   stages l =
-      in-stages counted isMessage B (letterMeans (line .letter)) (a .place) (a .copies) (a .message)
+      in-stages numbering isMessage B (letterMeans (line .letter)) (a .place) (a .copies) (a .message)
       ∙ λ i.
-      staged (sym l i .copies && ltb 3 (a .copies)) (refusal (rules.end-rules counted isMessage B (asksOf b out back line a)))
-      (sym l i .place && rules.missing (rules.takes (letterMeans (line .letter))) B (a .place)) (sym l i .copies && rules.no-room counted B (a .copies) (asksOf b out back line a))
+      staged (sym l i .copies && ltb 3 (a .copies)) (refusal (rules.end-rules numbering isMessage B (asksOf b out back line a)))
+      (sym l i .place && rules.missing (rules.takes (letterMeans (line .letter))) B (a .place)) (sym l i .copies && rules.no-room numbering B (a .copies) (asksOf b out back line a))
 
   -- a refusal is told as it is, and changes nothing
   pub refused-so : {r : Told} {n : ℕ} → Known b out back → number ≡ n → (n ≡ 0 → ⊥) → r ≡ record { report = Refused n; message = spaces; after = b }
@@ -85,13 +85,13 @@ module _ (b : Inside) (out back : List ℕ) (line : Line) (a : Action) where
   refused-so {r} {n} k e z q =
       ap (λ (x : Told). within x out back) q
       ∙ (λ i. record { report = Refused n; message = spaces; after = B; out = k .out-holds i; back = k .back-holds i })
-      ∙ ap withinTold (sym (step-refuses counted isMessage B (actionOf line a) n e z))
+      ∙ ap withinTold (sym (step-refuses numbering isMessage B (actionOf line a) n e z))
 
   -- 10
   pub too-many-so : {many : Bool} {r : Told} → Known b out back → Lined line → many ≡ (line .copies && ltb 3 (a .copies)) → many ≡ true → r ≡ record { report = Refused 10; message = spaces; after = b }
       → within r out back ≡ insideStep b out back line a
   too-many-so k l p t q =
-      let end = refusal (rules.end-rules counted isMessage B (asksOf b out back line a)) in
+      let end = refusal (rules.end-rules numbering isMessage B (asksOf b out back line a)) in
       let three = line .place && rules.missing (rules.takes (letterMeans (line .letter))) B (a .place) in
-      let nine = line .copies && rules.no-room counted B (a .copies) (asksOf b out back line a) in
+      let nine = line .copies && rules.no-room numbering B (a .copies) (asksOf b out back line a) in
       refused-so k (stages l ∙ staged-10 (line .copies && ltb 3 (a .copies)) end three nine (sym p ∙ t)) (λ x. omega (arith, x)) q

@@ -8,7 +8,8 @@ use lib.Dec.{leb}
 use borrow.Author.Tests.{le-leb, lt-leb, leb-true, leb-false, not-true, not-false, lt-ltb, le-ltb}
 use Rattle.ground.specs.Choice.{if_then_else_}
 use Rattle.ground.proofs.Tests.{by-test}
-use Rattle.channels.specs.Table.{added, takenOut}
+use Rattle.tables.specs.Table.{takenOut}
+use Rattle.channels.specs.Table.{added}
 use Rattle.bench.specs.Moving.{roomFor, countSent, tableSent, countTaken, tableTaken}
 use Rattle.bench.specs.declared.moves.Sent.{Sent}
 

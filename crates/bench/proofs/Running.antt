@@ -11,17 +11,17 @@ use borrow.Author.Tests.{lt-ltb, le-ltb, ltb-true, ltb-false}
 use Rattle.ground.specs.Choice.{if_then_else_}
 use Rattle.ground.proofs.Tests.{by-test}
 use Rattle.ground.specs.Cell.{isMessage}
-use Rattle.protocol.specs.Supply.{counted}
+use Rattle.protocol.specs.Supply.{numbering}
 use Rattle.protocol.specs.Bench as rules
 use Rattle.protocol.proofs.WellFormed.{fresh-well-formed}
-use Rattle.records.specs.Line.{lineBytes}
-use Rattle.records.specs.Record.{recordEnd}
-use Rattle.records.proofs.Ending.{end-within, end-after}
+use Rattle.listing.specs.Record.{recordEnd}
+use Rattle.listing.proofs.Ending.{end-within, end-after}
 use Rattle.channels.specs.Table.{packets}
 use Rattle.channels.proofs.Channel.{channel-none}
 use Rattle.channels.proofs.Packets.{to-controller-coded, to-console-coded}
 use Rattle.bench.specs.Means.{benchBack}
-use Rattle.channels.proofs.Parts.{part, replaced, part-length}
+use Rattle.tables.proofs.Parts.{part, replaced, part-length}
+use Rattle.bench.specs.Reports.{reportLine}
 use Rattle.bench.specs.Running.{recordsOf, played, lines, limitOf, listLines, listOutput, Ran, atFront, listRun}
 use Rattle.bench.specs.Within.{Known, insideMeans, benchOf, Played, linesOn, started}
 use Rattle.bench.specs.declared.Bench.{Bench}
@@ -100,12 +100,12 @@ along-first b input before out back {limit} e =
     (refl, refl, ap (λ (m : ℕ). lines 1 (benchOf b) out back (recordsOf m input)) (sym e ∙ omega arith))
 
 lines-next : (k : ℕ) (b : Bench) (out back s : List ℕ) (ss : List (List ℕ)) → lines k b out back (s ∷ ss)
-    ≡ lineBytes k (getD s 0 0) (played b out back s .outcome .report) (played b out back s .outcome .message) ++ lines (k + 1) (played b out back s .outcome .bench) (played b out back s .out) (played b out back s .back) ss
+    ≡ reportLine k (getD s 0 0) (played b out back s .outcome .report) (played b out back s .outcome .message) ++ lines (k + 1) (played b out back s .outcome .bench) (played b out back s .out) (played b out back s .back) ss
 unfolding lines
 lines-next k b out back s ss =
     let r = played b out back s in
     let f : suc k ≡ k + 1 = omega arith in
-    ap (λ (m : ℕ). lineBytes k (getD s 0 0) (r .outcome .report) (r .outcome .message) ++ lines m (r .outcome .bench) (r .out) (r .back) ss) f
+    ap (λ (m : ℕ). reportLine k (getD s 0 0) (r .outcome .report) (r .outcome .message) ++ lines m (r .outcome .bench) (r .out) (r .back) ss) f
 
 module _ (all input before output : List ℕ) (limit n : ℕ) (b : Inside) (out back : List ℕ) where
   abbrev s : List ℕ
@@ -181,7 +181,7 @@ pub starts-known : {b : Inside} (out back : List ℕ) → b ≡ started → out 
 unfolding insideMeans packets rules.fresh
 starts-known out back e f g =
     subst (λ (x : Inside). Known x out back) (sym e)
-    (record { well-formed = fresh-well-formed counted isMessage 0 0 refl refl; out-holds = f ∙ sym (channel-none to-controller-coded); back-holds = g ∙ sym (channel-none to-console-coded) })
+    (record { well-formed = fresh-well-formed numbering isMessage 0 0 refl refl; out-holds = f ∙ sym (channel-none to-controller-coded); back-holds = g ∙ sym (channel-none to-console-coded) })
 
 pub starts-run : (b : Inside) (out back input before after : List ℕ) {n : ℕ} → b ≡ started → out ≡ replicate 2048 0 → back ≡ replicate 2048 0
     → record { number = n; output = after } ≡ atFront (linesOn b out back input (length before)) before → record { number = n; output = after } ≡ listRun input before

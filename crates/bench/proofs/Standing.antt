@@ -11,7 +11,7 @@ use Rattle.ground.specs.Choice.{if_then_else_}
 use Rattle.ground.specs.Every.{filled}
 use Rattle.ground.proofs.Every.{filled-replicate}
 use Rattle.ground.proofs.Tests.{and-left, and-both}
-use Rattle.protocol.specs.Supply.{counted, largest}
+use Rattle.protocol.specs.Supply.{numbering, largest}
 use Rattle.protocol.specs.Bears.{Console-bears, Controller-bears}
 use Rattle.protocol.specs.Ends as ends
 use Rattle.protocol.specs.Bench as rules
@@ -24,7 +24,7 @@ use Rattle.channels.proofs.Channel.{channel-ok, packets-channel}
 use Rattle.channels.proofs.Packets.{to-controller-coded, to-console-coded}
 use Rattle.bench.specs.Means.{benchOk, benchMeans, benchBack}
 
-above : (n : ℕ) → Number counted n → 0 < n
+above : (n : ℕ) → Number numbering n → 0 < n
 above n h = leb-true 1 n (and-left (leb 1 n) (leb n largest) h)
 
 -- ## The console
@@ -44,7 +44,7 @@ send-stands : (u l : ℕ) (m : List ℕ) (up : Bool) → 0 < l → isMessage m �
 unfolding consoleOk consoleMode if_then_else_
 send-stands u l m up h g = rw (ne-eqb l 0 (omega (arith, h)), g, le-leb 0 u (omega arith)) (refl, refl)
 
-pub console-stands : (u : ℕ) (k : ends.ConsoleMode (List ℕ)) (up : Bool) → Console-bears (Given counted u) (Number counted) (Good isMessage) k → ConsoleStands (record { numbers = u; mode = k; up = up })
+pub console-stands : (u : ℕ) (k : ends.ConsoleMode (List ℕ)) (up : Bool) → Console-bears (Given numbering u) (Number numbering) (Good isMessage) k → ConsoleStands (record { numbers = u; mode = k; up = up })
 console-stands u ends.ConsoleMode.idle up h = idle-stands u up
 console-stands u (ends.in-needI j m) up h = needI-stands u j m up (above j (h .0 .0)) (h .0 .1) (h .1)
 console-stands u (ends.in-send l m) up h = send-stands u l m up (above l (h .0)) (h .1)
@@ -66,14 +66,14 @@ ack-stands : (u l : ℕ) (up : Bool) → 0 < l → leb l u ≡ true → Controll
 unfolding controllerOk controllerMode if_then_else_
 ack-stands u l up h w = rw (ne-eqb l 0 (omega (arith, h)), w, le-leb 0 u (omega arith)) (refl, refl)
 
-pub controller-stands : (u : ℕ) (k : ends.ControllerMode) (up : Bool) → Controller-bears (Number counted) (Given counted u) k → ControllerStands (record { numbers = u; mode = k; up = up })
+pub controller-stands : (u : ℕ) (k : ends.ControllerMode) (up : Bool) → Controller-bears (Number numbering) (Given numbering u) k → ControllerStands (record { numbers = u; mode = k; up = up })
 controller-stands u ends.ControllerMode.idle up h = free-stands u up
 controller-stands u (ends.in-accept j i) up h = accept-stands u j i up (above j (h .0)) (above i (h .1 .0)) (h .1 .1)
 controller-stands u (ends.in-ack l) up h = ack-stands u l up (above l (h .0)) (h .1)
 
 -- ## The bench
 
-module _ (b : rules.Bench ℕ (List ℕ)) (w : Well-formed counted isMessage b) where
+module _ (b : rules.Bench ℕ (List ℕ)) (w : Well-formed numbering isMessage b) where
   abbrev out : List ℕ
   out = channel toControllerBytes (b .toController)
 

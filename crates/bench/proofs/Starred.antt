@@ -5,7 +5,7 @@ use mathlib.Core.Bool.{true}
 use mathlib.Core.List.{List, [], _∷_, map}
 use native.Mathlib.Omega.{arith}
 use Rattle.ground.specs.Cell.{cells, isMessage}
-use Rattle.protocol.specs.Supply.{counted}
+use Rattle.protocol.specs.Supply.{numbering}
 use Rattle.protocol.specs.Bench as rules
 use Rattle.protocol.specs.Ends.{ConsoleMode, ControllerMode, order}
 use Rattle.protocol.specs.Lists.{All}
@@ -34,7 +34,7 @@ abbrev pub says : Check → Seen
 says c = (map toldOf (c .said), (benchBack (c .left), out (c .left), back (c .left)))
 
 abbrev Starts : Check → Type 0
-Starts c = Well-formed counted isMessage (c .start)
+Starts c = Well-formed numbering isMessage (c .start)
 
 one : (c : Check) → Starts c → seen c ≡ says (played c)
 unfolding played
@@ -44,11 +44,11 @@ each : (cs : List Check) → All Starts cs → map seen cs ≡ map says (map pla
 each [] w = refl
 each (c ∷ cs) w = ap₂ (λ (x : Seen) (l : List Seen). x ∷ l) (one c (w .0)) (each cs (w .1))
 
-ready : (j i : ℕ) → counted .sound j ≡ true → counted .sound i ≡ true → Well-formed counted isMessage (rules.fresh j i)
-ready j i p q = fresh-well-formed counted isMessage j i p q
+ready : (j i : ℕ) → numbering .sound j ≡ true → numbering .sound i ≡ true → Well-formed numbering isMessage (rules.fresh j i)
+ready j i p q = fresh-well-formed numbering isMessage j i p q
 
 -- last used I 3, and data with I 5 on its way
-stray : Well-formed counted isMessage (record { console = record { numbers = 0; mode = ConsoleMode.idle; up = true }; controller = record { numbers = 3; mode = ControllerMode.idle; up = true }; toController = order 5 a ∷ []; toConsole = [] })
+stray : Well-formed numbering isMessage (record { console = record { numbers = 0; mode = ConsoleMode.idle; up = true }; controller = record { numbers = 3; mode = ControllerMode.idle; up = true }; toController = order 5 a ∷ []; toConsole = [] })
 unfolding isMessage cells
 stray =
     record {

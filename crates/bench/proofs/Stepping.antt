@@ -10,7 +10,7 @@ use Rattle.ground.specs.Cell.{isMessage, spaces}
 use Rattle.ground.specs.Choice.{if_then_else_}
 use Rattle.wire.specs.declared.I.{I}
 use Rattle.wire.specs.declared.J.{J}
-use Rattle.protocol.specs.Supply.{counted}
+use Rattle.protocol.specs.Supply.{numbering}
 use Rattle.protocol.specs.Letters as letters
 use Rattle.protocol.specs.Letters.{letter}
 use Rattle.protocol.specs.Bench as rules
@@ -65,7 +65,7 @@ module _ {ok : Bool} (b : Bench) (line : Line) (a : Action) (out back : List ℕ
   unfolding linedStep insideStep insideOf insideMeans benchMeans actionOf if_then_else_
   lined-does {i} t {r} {out′} {back′} n f h q =
       (λ j. record { outcome = q j; out = out′; back = back′ })
-      ∙ told-so t out′ back′ (rules.step counted isMessage (benchMeans b out back) (actionOf line a)) (h ∙ ap (λ (x : Inside). insideStep x out back line a) f)
+      ∙ told-so t out′ back′ (rules.step numbering isMessage (benchMeans b out back) (actionOf line a)) (h ∙ ap (λ (x : Inside). insideStep x out back line a) f)
       ∙ rw (← e, not-false ok n)
 
 -- ## The step

@@ -9,13 +9,14 @@ use lib.Dec.{ltb}
 use lib.ListN.{length, replicate, length-append, length-replicate}
 use borrow.Author.Tests.{ltb-true, ltb-false}
 use Rattle.ground.specs.Choice.{if_then_else_}
+use Rattle.ground.proofs.Lists.{split, without-beyond}
 use Rattle.ground.proofs.Tests.{by-test}
 use Rattle.wire.specs.declared.Direction.{Direction}
 use Rattle.wire.specs.declared.Packet.{Packet}
 use Rattle.protocol.specs.Bench.{without, copies-of}
 use Rattle.protocol.specs.Lists.{All, Opt}
 use Rattle.channels.specs.Table.{channel, packets}
-use Rattle.channels.proofs.Channel.{Coded, split, without-beyond, taken-is, added-is, packets-channel}
+use Rattle.channels.proofs.Channel.{Coded, taken-is, added-is, packets-channel}
 use Rattle.bench.specs.Moving.{sentOf, countSent, tableSent, countTaken, tableTaken}
 
 -- the packets that are left

@@ -8,7 +8,7 @@ use Rattle.ground.specs.Bytes.{Bytes}
 use Rattle.ground.specs.Cell.{isMessage, spaces}
 use Rattle.ground.specs.Choice.{if_then_else_}
 use Rattle.ground.proofs.Tests.{by-test}
-use Rattle.protocol.specs.Supply.{counted}
+use Rattle.protocol.specs.Supply.{numbering}
 use Rattle.protocol.specs.Letters.{Letter, letter}
 use Rattle.protocol.specs.Ends as ends
 use Rattle.protocol.specs.Bench as rules
@@ -55,13 +55,13 @@ module _ (b : Bench) (out back : List ℕ) where
         }
 
     told-same : (a : rules.Action (List ℕ)) (n : ℕ) → benchOk b out back ≡ true
-        → benchTold (rules.step counted isMessage (benchMeans b out back) a) .outcome .report ≡ report.Refused n
-        → benchTold (rules.step counted isMessage (benchMeans b out back) a) ≡ benchRefused n b out back
+        → benchTold (rules.step numbering isMessage (benchMeans b out back) a) .outcome .report ≡ report.Refused n
+        → benchTold (rules.step numbering isMessage (benchMeans b out back) a) ≡ benchRefused n b out back
     unfolding benchTold
     told-same a n ok e =
-        let o = rules.step counted isMessage (benchMeans b out back) a in
+        let o = rules.step numbering isMessage (benchMeans b out back) a in
         let f : o .report ≡ ends.refused n = refused-in-rules (o .report) n e in
-        (λ i. benchTold (record { report = f i; after = step-refused-same counted isMessage (benchMeans b out back) a n f i })) ∙ same ok n
+        (λ i. benchTold (record { report = f i; after = step-refused-same numbering isMessage (benchMeans b out back) a n f i })) ∙ same ok n
 
     of-letter : (l : Option Letter) (a : Action) (n : ℕ) → stepOf l b a out back .outcome .report ≡ report.Refused n → stepOf l b a out back ≡ benchRefused n b out back
     unfolding if_then_else_

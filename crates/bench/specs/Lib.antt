@@ -4,5 +4,6 @@ pub mod Means
 pub mod Moving
 pub mod Orders
 pub mod Promise
+pub mod Reports
 pub mod Running
 pub mod Within

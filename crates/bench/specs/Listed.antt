@@ -2,33 +2,29 @@
 -- and what a reader of records and lines sees is a right log without the puts' numbers. Assumes nothing.
 use Prim.Native.Nat.{ℕ, suc, _*_}
 use mathlib.Core.Path.{_≡_}
-use mathlib.Core.Option.{Option, Option·map}
+use mathlib.Core.Option.{Option, none, some, Option·map}
 use mathlib.Core.List.{List, [], _∷_, _++_, map}
 use lib.ListN.{length, getD, take, drop, replicate}
 use Rattle.ground.specs.Cell.{spaces}
-use Rattle.wire.specs.Frame.{field}
+use Rattle.ground.specs.Bytes.{field}
 use Rattle.wire.specs.declared.I.{I}
 use Rattle.wire.specs.declared.J.{J}
 use Rattle.protocol.specs.Bench.{fresh}
 use Rattle.protocol.specs.Log.{Event}
 use Rattle.protocol.specs.Demand3.{unnumbered}
-use Rattle.letters.specs.declared.Found.{Found}
-use Rattle.letters.specs.declared.Found.the-variants as found
-use Rattle.records.specs.Line.{cellsSay, lineBytes}
-use Rattle.records.specs.Record.{listRecord}
-use Rattle.records.specs.declared.Record.{Record}
 use Rattle.bench.specs.Orders.{freshOutcomes, shownBy, Rows, rowsOf, OrdersRight}
-use Rattle.bench.specs.Running.{recordsOf, limitOf}
+use Rattle.bench.specs.Reports.{cellsSay, reportLine}
+use Rattle.bench.specs.Running.{recordsOf, listAction, limitOf}
 use Rattle.bench.specs.declared.Action.{Action}
 use Rattle.bench.specs.declared.Outcome.{Outcome}
 
--- the action that a record is; of a record that is not well formed one whose letter, ?, is no action's
-abbrev pub actionAs : Found → Record → Action
-actionAs found.Nothing r = record { letter = 0x3F; place = 0; copies = 0; message = spaces }
-actionAs (found.Line l) r = record { letter = l .byte; place = r .place; copies = r .copies; message = r .message }
+-- the action that a record is; of a record that is none one whose letter, ?, is no action's
+abbrev pub actionOr : Option Action → Action
+actionOr none = record { letter = 0x3F; place = 0; copies = 0; message = spaces }
+actionOr (some a) = a
 
 abbrev pub actionOf : List ℕ → Action
-actionOf s = actionAs (listRecord s .found) (listRecord s)
+actionOf s = actionOr (listAction s)
 
 -- the records of an input that an output has room for, and their actions
 abbrev pub recordsIn : List ℕ → List ℕ → List (List ℕ)
@@ -41,7 +37,7 @@ actionsIn input output = map actionOf (recordsIn input output)
 unfoldable pub linesOf : ℕ → List (List ℕ) → List Outcome → List ℕ
 linesOf k [] os = []
 linesOf k (s ∷ ss) [] = []
-linesOf k (s ∷ ss) (o ∷ os) = lineBytes k (getD s 0 0) (o .report) (o .message) ++ linesOf (suc k) ss os
+linesOf k (s ∷ ss) (o ∷ os) = reportLine k (getD s 0 0) (o .report) (o .message) ++ linesOf (suc k) ss os
 
 -- ## What a reader sees
 

@@ -8,7 +8,8 @@ use Rattle.ground.specs.Choice.{if_then_else_}
 use Rattle.wire.specs.declared.Head.the-variants.{NeedI}
 use Rattle.wire.specs.declared.Packet.{Packet}
 use Rattle.ends.specs.Packets.{zeros}
-use Rattle.channels.specs.Table.{added, takenOut}
+use Rattle.tables.specs.Table.{takenOut}
+use Rattle.channels.specs.Table.{added}
 use Rattle.bench.specs.declared.moves.Sent.{Sent}
 
 -- what is sent, if anything is; beside "none" stands a packet that is not looked at

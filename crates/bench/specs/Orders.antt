@@ -6,7 +6,7 @@ use mathlib.Core.List.{List, [], _∷_, map}
 use Rattle.wire.specs.declared.I.{I}
 use Rattle.wire.specs.declared.J.{J}
 use Rattle.ground.specs.Cell.{isMessage}
-use Rattle.protocol.specs.Supply.{counted}
+use Rattle.protocol.specs.Supply.{numbering}
 use Rattle.protocol.specs.Letters.{Letter, letter}
 use Rattle.protocol.specs.Bench as rules
 use Rattle.protocol.specs.Bench.{fresh}
@@ -61,8 +61,8 @@ Rows = List (Option (Event (List ℕ)))
 abbrev pub rowsFrom : Option Letter → Action → Log (List ℕ) → Labels → (Log (List ℕ) → Labels → Rows) → Rows
 rowsFrom none a past b more = none ∷ more past b
 rowsFrom (some x) a past b more =
-    row-of counted isMessage past b (asRules x a)
-    ∷ more (write (row-of counted isMessage past b (asRules x a)) past) (labelled-step counted isMessage past b (asRules x a) .after)
+    row-of numbering isMessage past b (asRules x a)
+    ∷ more (write (row-of numbering isMessage past b (asRules x a)) past) (labelled-step numbering isMessage past b (asRules x a) .after)
 
 unfoldable pub rowsOf : Log (List ℕ) → Labels → List Action → Rows
 rowsOf past b [] = []

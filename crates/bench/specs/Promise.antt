@@ -9,7 +9,7 @@ use Rattle.ground.specs.Choice.{if_then_else_}
 use Rattle.ground.specs.Cell.{isMessage, spaces}
 use Rattle.wire.specs.declared.I.{I}
 use Rattle.wire.specs.declared.J.{J}
-use Rattle.protocol.specs.Supply.{counted}
+use Rattle.protocol.specs.Supply.{numbering}
 use Rattle.protocol.specs.Letters.{Letter, letter}
 use Rattle.protocol.specs.Ends.{nothing}
 use Rattle.protocol.specs.Bench as rules
@@ -48,7 +48,7 @@ abbrev pub stepOf : Option Letter → Bench → Action → List ℕ → List ℕ
 stepOf none b a out back = benchRefused 1 b out back
 stepOf (some l) b a out back =
     if benchOk b out back
-    then benchTold (rules.step counted isMessage (benchMeans b out back) (rules.action l (a .place) (a .copies) (a .message)))
+    then benchTold (rules.step numbering isMessage (benchMeans b out back) (rules.action l (a .place) (a .copies) (a .message)))
     else benchRefused 2 b out back
 
 unfoldable pub benchStep : Bench → Action → List ℕ → List ℕ → Result

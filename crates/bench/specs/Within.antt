@@ -11,17 +11,18 @@ use Rattle.ground.specs.Cell.{isMessage, spaces}
 use Rattle.ground.specs.First.{refusal}
 use Rattle.wire.specs.declared.Direction.{Direction}
 use Rattle.wire.specs.declared.Direction.the-variants as dir
-use Rattle.protocol.specs.Supply.{counted}
+use Rattle.protocol.specs.Supply.{numbering}
 use Rattle.protocol.specs.Ends as ends
 use Rattle.protocol.specs.Bench as rules
 use Rattle.protocol.specs.Relabel.{in-console, in-console-act, in-controller-act}
 use Rattle.protocol.specs.WellFormed.{Well-formed}
-use Rattle.letters.specs.Lines.{letterMeans, lineOf}
+use Rattle.protocol.specs.Letters.{letter}
+use Rattle.letters.specs.Lines.{letterMeans, lineOf, foundOf}
 use Rattle.letters.specs.declared.Line.{Line}
 use Rattle.letters.specs.declared.Found.{Found}
 use Rattle.letters.specs.declared.Found.the-variants as found
-use Rattle.records.specs.Line.{lineBytes}
-use Rattle.records.specs.declared.Record.{Record}
+use Rattle.listing.specs.Record.{listRecord}
+use Rattle.listing.specs.declared.Fields.{Fields}
 use Rattle.ends.specs.Means.{tested, reportBack}
 use Rattle.ends.specs.InRules.{delivered}
 use Rattle.ends.specs.Fields.{consoleEnd, consoleFields, controllerEnd, controllerFields}
@@ -38,7 +39,8 @@ use Rattle.ends.specs.declared.controller.Act as controller-act
 use Rattle.channels.specs.Packets.{toControllerBytes, toControllerRead, toConsoleBytes, toConsoleRead}
 use Rattle.channels.specs.Table.{channel, packets}
 use Rattle.bench.specs.Promise.{Result, stepOf}
-use Rattle.bench.specs.Running.{played, lines, recordsOf, limitOf}
+use Rattle.bench.specs.Reports.{reportLine}
+use Rattle.bench.specs.Running.{usesOf, actionWith, played, lines, recordsOf, limitOf}
 use Rattle.bench.specs.declared.Action.{Action}
 use Rattle.bench.specs.declared.Bench.{Bench}
 use Rattle.bench.specs.declared.Outcome.{Outcome}
@@ -58,7 +60,7 @@ insideMeans b out back =
 
 -- well formed, and the tables hold these packets and zero bytes
 pub record Known (b : Inside) (out back : List ℕ) : Type 0 where
-  pub well-formed : Well-formed counted isMessage (insideMeans b out back)
+  pub well-formed : Well-formed numbering isMessage (insideMeans b out back)
   pub out-holds : out ≡ channel toControllerBytes (insideMeans b out back .toController)
   pub back-holds : back ≡ channel toConsoleBytes (insideMeans b out back .toConsole)
 
@@ -92,7 +94,7 @@ unfoldable pub actionOf : Line → Action → rules.Action (List ℕ)
 actionOf line a = rules.action (letterMeans (line .letter)) (a .place) (a .copies) (a .message)
 
 unfoldable pub insideStep : Inside → List ℕ → List ℕ → Line → Action → Within
-insideStep b out back line a = withinTold (rules.step counted isMessage (insideMeans b out back) (actionOf line a))
+insideStep b out back line a = withinTold (rules.step numbering isMessage (insideMeans b out back) (actionOf line a))
 
 -- ## What is known on the way: 10 doesn't apply, and who is asked
 
@@ -114,12 +116,12 @@ pub record OnConsole (b : Inside) (out back : List ℕ) (line : Line) (a : Actio
   pub asks : asksOf b out back line a ≡ rules.Asked.console (in-console-act (λ _. a .message) (console.act act))
   pub takes : rules.takes (letterMeans (line .letter)) ≡ (if line .place then rules.from-toConsole else rules.from-neither)
   pub message : line .message ≡ puts act
-  pub silent : line .copies ≡ false → (e : ends.Console ℕ (List ℕ)) → ends.console-acts counted e (in-console-act (λ _. a .message) (console.act act)) .sent ≡ none
+  pub silent : line .copies ≡ false → (e : ends.Console ℕ (List ℕ)) → ends.console-acts numbering e (in-console-act (λ _. a .message) (console.act act)) .sent ≡ none
 
 -- and it does not refuse, and the packet is there
 pub record ConsoleReady (b : Inside) (out back : List ℕ) (line : Line) (a : Action) (act : console-act.Act) : Type 0 where
   pub on : OnConsole b out back line a act
-  pub accepts : refusal (ends.console-rules counted (tested (isMessage (a .message))) (console.end (b .console)) (console.act act)) ≡ 0
+  pub accepts : refusal (ends.console-rules numbering (tested (isMessage (a .message))) (console.end (b .console)) (console.act act)) ≡ 0
   pub there : (line .place && leb (b .returned) (a .place)) ≡ false
 
 -- the controller, with data's message
@@ -128,11 +130,11 @@ pub record OnController (b : Inside) (out back : List ℕ) (line : Line) (a : Ac
   pub few : (line .copies && ltb 3 (a .copies)) ≡ false
   pub asks : asksOf b out back line a ≡ rules.Asked.controller (in-controller-act (λ _. m) (controller.act act))
   pub takes : rules.takes (letterMeans (line .letter)) ≡ (if line .place then rules.from-toController else rules.from-neither)
-  pub silent : line .copies ≡ false → (e : ends.Controller ℕ) → ends.controller-acts counted e (in-controller-act (λ _. m) (controller.act act)) .sent ≡ none
+  pub silent : line .copies ≡ false → (e : ends.Controller ℕ) → ends.controller-acts numbering e (in-controller-act (λ _. m) (controller.act act)) .sent ≡ none
 
 pub record ControllerReady (b : Inside) (out back : List ℕ) (line : Line) (a : Action) (act : controller-act.Act) (m : List ℕ) : Type 0 where
   pub on : OnController b out back line a act m
-  pub accepts : refusal (ends.controller-rules counted (controller.end (b .controller)) (controller.act act)) ≡ 0
+  pub accepts : refusal (ends.controller-rules numbering (controller.end (b .controller)) (controller.act act)) ≡ 0
   pub there : (line .place && leb (b .sent) (a .place)) ≡ false
 
 -- a packet on its way in a direction
@@ -190,21 +192,27 @@ abbrev pub FoundLined : Found → Type 0
 FoundLined found.Nothing = Unit {0}
 FoundLined (found.Line l) = Lined l
 
-abbrev pub actionIn : Line → Record → Action
-actionIn l r = record { letter = l .byte; place = r .place; copies = r .copies; message = r .message }
-
 -- a record that is not well formed is 1
-abbrev pub recordOutcome : Found → Record → Inside → List ℕ → List ℕ → rules.Outcome ℕ (List ℕ)
-recordOutcome found.Nothing r b out back = record { report = ends.refused 1; after = insideMeans b out back }
-recordOutcome (found.Line l) r b out back = rules.step counted isMessage (insideMeans b out back) (actionOf l (actionIn l r))
+abbrev pub fieldsOutcome : Line → Fields → Inside → List ℕ → List ℕ → rules.Outcome ℕ (List ℕ)
+fieldsOutcome l r b out back =
+    if r .fits then rules.step numbering isMessage (insideMeans b out back) (actionOf l (actionWith l r))
+    else record { report = ends.refused 1; after = insideMeans b out back }
 
-unfoldable pub recordStep : Inside → List ℕ → List ℕ → Record → Within
-recordStep b out back r = withinTold (recordOutcome (r .found) r b out back)
+-- and so is one whose letter is no action's
+abbrev pub recordOutcome : Found → List ℕ → Inside → List ℕ → List ℕ → rules.Outcome ℕ (List ℕ)
+recordOutcome found.Nothing s b out back = record { report = ends.refused 1; after = insideMeans b out back }
+recordOutcome (found.Line l) s b out back = fieldsOutcome l (listRecord (usesOf l) s) b out back
+
+unfoldable pub lineStep : Inside → List ℕ → List ℕ → Line → List ℕ → Within
+lineStep b out back l s = withinTold (recordOutcome (found.Line l) s b out back)
+
+unfoldable pub recordStep : Inside → List ℕ → List ℕ → List ℕ → Within
+recordStep b out back s = withinTold (recordOutcome (foundOf (letter (getD s 0 0))) s b out back)
 
 -- a record played: its line, and what is known afterwards
 pub record Played (b : Inside) (out back : List ℕ) (s : List ℕ) (number : ℕ) (after : Inside) (line out′ back′ : List ℕ) : Type 0 where
   pub known : Known after out′ back′
-  pub written : line ≡ lineBytes number (getD s 0 0) (played (benchOf b) out back s .outcome .report) (played (benchOf b) out back s .outcome .message)
+  pub written : line ≡ reportLine number (getD s 0 0) (played (benchOf b) out back s .outcome .report) (played (benchOf b) out back s .outcome .message)
   pub bench-is : benchOf after ≡ played (benchOf b) out back s .outcome .bench
   pub out-is : out′ ≡ played (benchOf b) out back s .out
   pub back-is : back′ ≡ played (benchOf b) out back s .back

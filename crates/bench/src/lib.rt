@@ -1,5 +1,6 @@
 // The bench: two ends, two channels, thirteen actions.
 mod asks;
+mod cells;
 mod inside;
 mod moves;
 mod runner;
@@ -166,8 +167,8 @@ pub fn fresh(j: J, i: I, out: &mut [u8], back: &mut [u8]) -> Outcome
     if back.len() != 2048 {
         return refused(2, b);
     }
-    channels::clear(out);
-    channels::clear(back);
+    tables::clear(out);
+    tables::clear(back);
     Outcome {
         report: Report::Nothing,
         message: [0x20; 16],

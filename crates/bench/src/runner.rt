@@ -1,5 +1,7 @@
 // The runner: records in, a line for each out.
 use crate::Action;
+use crate::cells::letter_cell;
+use crate::cells::report_cells;
 use crate::inside::Inside;
 use crate::inside::Told;
 use crate::inside::known;
@@ -7,34 +9,52 @@ use crate::inside::refused;
 use ends::console;
 use ends::controller;
 use letters::Found;
-use records::Record;
+use letters::Line;
+use listing::Uses;
 use wire::I;
 use wire::J;
 ghost use Prim.Native.Nat.{_<_};
 ghost use mathlib.Core.Path.{_≡_};
 ghost use lib.ListN.{length};
 ghost use Rattle.bench.specs.Running.{limitOf, atFront, listRun};
-ghost use Rattle.bench.specs.Within.{Known, within, FoundLined, recordStep, Played, linesOn, started};
+ghost use Rattle.bench.specs.Within.{Known, within, Lined, lineStep, recordStep, Played, linesOn, started};
 
-// A record that is not well formed is 1.
-fn play(b: Inside, r: Record, out: &mut [u8], back: &mut [u8]) -> Told
+// A record whose letter has this line; one that is not well formed is 1.
+fn play_line(b: Inside, line: Line, part: &[u8], out: &mut [u8], back: &mut [u8]) -> Told
     requires { ⌜ Known b (now out) (now back) ⌝ }
-    requires { ⌜ FoundLined (r .found) ⌝ }
-    ensures { λ t. ⌜ within t (now (out .exit)) (now (back .exit)) ≡ recordStep b (now (out .entry)) (now (back .entry)) r ⌝ }
+    requires { ⌜ Lined line ⌝ }
+    ensures { λ t. ⌜ within t (now (out .exit)) (now (back .exit)) ≡ lineStep b (now (out .entry)) (now (back .entry)) line (now (part .entry)) ⌝ }
 {
-    let found = r.found;
+    let uses = Uses {
+        place: line.place,
+        copies: line.copies,
+        message: line.message,
+    };
+    let r = listing::read(part, uses);
+    if r.fits {
+        let message = r.message;
+        let a = Action {
+            letter: line.byte,
+            place: r.place,
+            copies: r.copies,
+            message,
+        };
+        known(b, line, a, out, back)
+    } else {
+        refused(1, b)
+    }
+}
+
+// A byte that is no action's letter is 1.
+fn play(b: Inside, part: &[u8], out: &mut [u8], back: &mut [u8]) -> Told
+    requires { ⌜ Known b (now out) (now back) ⌝ }
+    requires { ⌜ 0 < length (now part) ⌝ }
+    ensures { λ t. ⌜ within t (now (out .exit)) (now (back .exit)) ≡ recordStep b (now (out .entry)) (now (back .entry)) (now (part .entry)) ⌝ }
+{
+    let found = letters::find(part[0]);
     match found {
         Found::Nothing => refused(1, b),
-        Found::Line(line) => {
-            let message = r.message;
-            let a = Action {
-                letter: line.byte,
-                place: r.place,
-                copies: r.copies,
-                message,
-            };
-            known(b, line, a, out, back)
-        }
+        Found::Line(line) => play_line(b, line, part, out, back),
     }
 }
 
@@ -52,12 +72,12 @@ fn turn(
     requires { ⌜ length (now line) ≡ 27 ⌝ }
     ensures { λ r. ⌜ Played b (now (out .entry)) (now (back .entry)) (now (part .entry)) number r (now (line .exit)) (now (out .exit)) (now (back .exit)) ⌝ }
 {
-    let letter = part[0];
-    let read = records::read(part);
-    let told = play(b, read, out, back);
+    let told = play(b, part, out, back);
     let report = told.report;
+    let letter = letter_cell(part[0], report);
+    let cells = report_cells(report);
     let message = told.message;
-    records::write_line(line, number, letter, report, message);
+    listing::write_line(line, number, letter, cells, message);
     let after = told.after;
     after
 }
@@ -83,7 +103,7 @@ fn run_on(b: Inside, input: &[u8], output: &mut [u8], out: &mut [u8], back: &mut
         if input.len() <= start {
             return n * 27;
         }
-        let end = records::record_end(start, input.len());
+        let end = listing::record_end(start, input.len());
         let line = n * 27;
         at = turn(
             at,

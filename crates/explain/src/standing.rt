@@ -8,7 +8,7 @@ use ends::fields::Console;
 use ends::fields::Controller;
 use ends::fields::console_end;
 use ends::fields::controller_end;
-use wire::Direction;
+use tables::Way;
 use wire::Head;
 use wire::ReadHead;
 
@@ -94,22 +94,22 @@ fn print_part(refusal: u8, part: &[u8]) {
 
 // Proved by hand, since a struct holds the part.
 fn print_packet<'a>(
-    dir: Direction,
+    way: Way,
     place: usize,
     out: &'a [u8],
     sent: usize,
     back: &'a [u8],
     returned: usize,
 ) {
-    let shown = channels::show(dir, place, out, sent, back, returned);
+    let shown = tables::show(way, place, out, sent, back, returned);
     print_part(shown.refusal, shown.part);
 }
 
 // The packets of a channel in the order of their places.
-fn print_packets<'a>(dir: Direction, out: &'a [u8], sent: usize, back: &'a [u8], returned: usize) {
+fn print_packets<'a>(way: Way, out: &'a [u8], sent: usize, back: &'a [u8], returned: usize) {
     let mut place = 0;
     while place < 64 {
-        print_packet(dir, place, out, sent, back, returned);
+        print_packet(way, place, out, sent, back, returned);
         place += 1;
     }
 }
@@ -127,9 +127,9 @@ pub(crate) fn print<'a>(b: Bench, out: &'a [u8], back: &'a [u8]) {
     print_controller(controller);
     say(b"  to controller:");
     print_empty(b.sent);
-    print_packets(Direction::ToController, out, b.sent, back, b.returned);
+    print_packets(Way::Out, out, b.sent, back, b.returned);
     say(b"\n  to console:");
     print_empty(b.returned);
-    print_packets(Direction::ToConsole, out, b.sent, back, b.returned);
+    print_packets(Way::Back, out, b.sent, back, b.returned);
     say(b"\n");
 }

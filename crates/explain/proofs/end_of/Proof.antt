@@ -1,5 +1,6 @@
+-- `explain::end_of` meets its contract.
 use borrow.Author.Needs.{needs}
-use Rattle.records.proofs.Ending.{end-bounds}
+use Rattle.listing.proofs.Ending.{end-bounds}
 use Rattle.explain.proofs.end_of.Statement.{statement}
 use Rattle.explain.proofs.end_of.Tie as tie
 

@@ -1,5 +1,6 @@
+-- `bench::runner::play` meets its contract: no action has the letter, or its line is played.
 use borrow.Author.Needs.{needs}
-use Rattle.bench.proofs.Playing.{play-refused, play-step, found-lined}
+use Rattle.bench.proofs.Playing.{play-refused, play-line, lined-letter}
 use Rattle.bench.proofs.runner.play.Statement.{statement}
 use Rattle.bench.proofs.runner.play.Tie as tie
 
@@ -10,8 +11,10 @@ play-spec =
     (λ c. search needs)
     (λ c κs. search needs)
     (λ c. search needs)
-    (λ c κs. (search needs, search found-lined))
+    (λ c κs. search needs)
+    (λ c. search needs)
+    (λ c κs. (search needs, search lined-letter))
     (λ c. search play-refused)
     (λ c. search needs)
     (λ c. search needs)
-    (λ c. search play-step))
+    (λ c. search play-line))

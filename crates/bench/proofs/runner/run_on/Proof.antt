@@ -3,7 +3,7 @@ use Prim.Native.Nat.{_≤_, _-_, _*_}
 use mathlib.Core.Path.{_≡_}
 use borrow.Author.Needs.{needs}
 use lib.ListN.{length}
-use Rattle.records.proofs.Ending.{end-from, end-within}
+use Rattle.listing.proofs.Ending.{end-from, end-within}
 use Rattle.bench.specs.Within.{Known, linesOn}
 use Rattle.bench.proofs.Running.{Along, along-first, along-turn, over-limit, over-input, record-some, line-long, limit-low, limit-roomy}
 use Rattle.bench.proofs.runner.run_on.Statement.{statement}

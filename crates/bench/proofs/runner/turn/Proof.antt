@@ -1,5 +1,6 @@
+-- `bench::runner::turn` meets its contract: the record is played, and its line written.
 use borrow.Author.Needs.{needs}
-use Rattle.bench.proofs.Playing.{read-lined, turned}
+use Rattle.bench.proofs.Playing.{turned}
 use Rattle.bench.proofs.runner.turn.Statement.{statement}
 use Rattle.bench.proofs.runner.turn.Tie as tie
 
@@ -7,9 +8,10 @@ pub turn-spec : {M : Type 1} → statement M
 turn-spec =
     tie.close
     (tie.spec
+    (λ c κs. search needs)
     (λ c. search needs)
     (λ c κs. search needs)
-    (λ c κs. (search needs, search read-lined))
+    (λ c κs. search needs)
     (λ c κs. search needs)
     (λ c. search needs)
     (λ c. search needs)

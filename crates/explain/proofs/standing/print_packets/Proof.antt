@@ -5,10 +5,10 @@ use Rattle.explain.proofs.standing.print_packets.Statement.{statement}
 use Rattle.explain.proofs.standing.print_packets.Tie as tie
 
 abbrev Inv-loop : tie.InvT-loop
-Inv-loop dir out sent back returned place₀ place = place ≤ 64
+Inv-loop way out sent back returned place₀ place = place ≤ 64
 
 abbrev μ-loop : tie.MeasureT-loop
-μ-loop dir out sent back returned place₀ place = 64 - place
+μ-loop way out sent back returned place₀ place = 64 - place
 
 pub print-packets-spec : {M : Type 1} → statement M
 print-packets-spec =

@@ -20,11 +20,11 @@ use Rattle.wire.specs.Frame.{field}
 use Rattle.wire.specs.Number.{bytesOf}
 use Rattle.wire.specs.declared.Direction.the-variants.{ToController, ToConsole}
 use Rattle.wire.proofs.Frames.{split-field}
-use Rattle.protocol.specs.Supply.{counted}
+use Rattle.protocol.specs.Supply.{numbering}
 use Rattle.protocol.specs.Letters.{Letter, letter}
 use Rattle.protocol.specs.Bench as rules
 use Rattle.protocol.specs.WellFormed.{Well-formed}
-use Rattle.protocol.proofs.Supply.{counted-lawful}
+use Rattle.protocol.proofs.Supply.{numbering-lawful}
 use Rattle.protocol.proofs.WellFormed.{step-well-formed}
 use Rattle.ends.specs.Fields.{consoleOk, controllerOk}
 use Rattle.channels.specs.Table.{tableOk}
@@ -150,7 +150,7 @@ bench-step-leaves s a out back e = rw (e, step-long s a out back e)
 
 -- its counts have places, so that their bytes are whole
 module _ (b : Bench) (out back : List ℕ) (typed : Typed (b .console) (b .controller)) (p : Bytes out) (q : Bytes back) where
-  means-well : benchOk b out back ≡ true → Well-formed counted isMessage (benchMeans b out back)
+  means-well : benchOk b out back ≡ true → Well-formed numbering isMessage (benchMeans b out back)
   unfolding insideOf insideMeans benchMeans
   means-well t = known-so {ok = true} b out back typed p q (sym t) refl refl .well-formed
 
@@ -160,7 +160,7 @@ module _ (b : Bench) (out back : List ℕ) (typed : Typed (b .console) (b .contr
   counts-few (some l) a e =
       by-test (benchOk b out back)
       (λ t.
-      let w = step-well-formed counted counted-lawful isMessage (benchMeans b out back) (rules.action l (a .place) (a .copies) (a .message)) (means-well t) in
+      let w = step-well-formed numbering numbering-lawful isMessage (benchMeans b out back) (rules.action l (a .place) (a .copies) (a .message)) (means-well t) in
       rw t (w .to-controller-room, w .to-console-room))
       (λ f. absurd (true≢false (rw f at e)))
 

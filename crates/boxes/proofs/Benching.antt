@@ -11,16 +11,16 @@ use lib.Dec.{eqb}
 use Rattle.ground.specs.Choice.{if_then_else_}
 use Rattle.ground.proofs.Tests.{by-test}
 use Rattle.wire.specs.Frame.{field}
-use Rattle.wire.specs.declared.Direction.the-variants.{ToController, ToConsole}
 use Rattle.wire.specs.declared.I.{I}
 use Rattle.wire.specs.declared.J.{J}
 use Rattle.wire.proofs.Frames.{split-field}
 use Rattle.ends.specs.declared.Report.{Report}
 use Rattle.ends.specs.declared.fields.Console.{Console}
 use Rattle.ends.specs.declared.fields.Controller.{Controller}
-use Rattle.channels.specs.Shown.{showRefusal}
-use Rattle.channels.proofs.Parts.{part, replaced, part-length, back-at}
-use Rattle.channels.proofs.Showing.{showable}
+use Rattle.tables.specs.Shown.{showRefusal}
+use Rattle.tables.specs.declared.shown.Way.the-variants.{Out, Back}
+use Rattle.tables.proofs.Parts.{part, replaced, part-length, back-at}
+use Rattle.tables.proofs.Showing.{showable}
 use Rattle.bench.specs.Promise.{Result, benchStep, benchFresh}
 use Rattle.bench.specs.declared.Action.{Action}
 use Rattle.bench.specs.declared.Bench.{Bench}
@@ -120,15 +120,15 @@ bench-delivered s a out back d f e g =
 -- ## Showing a packet
 
 module _ (end place : ℕ) (out : List ℕ) (sent : ℕ) (back : List ℕ) (returned : ℕ) {r : ℕ} where
-  pub show-console : end ≡ 1 → r ≡ showRefusal ToConsole place out sent back returned → r ≡ showTo end place out sent back returned
+  pub show-console : end ≡ 1 → r ≡ showRefusal Back place out sent back returned → r ≡ showTo end place out sent back returned
   unfolding showTo if_then_else_
   show-console h e = rw h e
 
-  pub show-controller : (end ≡ 1 → ⊥) → end ≡ 2 → r ≡ showRefusal ToController place out sent back returned → r ≡ showTo end place out sent back returned
+  pub show-controller : (end ≡ 1 → ⊥) → end ≡ 2 → r ≡ showRefusal Out place out sent back returned → r ≡ showTo end place out sent back returned
   unfolding showTo if_then_else_
   show-controller n h e = rw h e
 
-  pub show-no-end : (end ≡ 1 → ⊥) → (end ≡ 2 → ⊥) → r ≡ showRefusal ToConsole 64 out sent back returned → r ≡ showTo end place out sent back returned
+  pub show-no-end : (end ≡ 1 → ⊥) → (end ≡ 2 → ⊥) → r ≡ showRefusal Back 64 out sent back returned → r ≡ showTo end place out sent back returned
   unfolding showTo if_then_else_
   show-no-end n m e = rw (ne-eqb end 1 n, ne-eqb end 2 m) e
 
@@ -136,10 +136,10 @@ module _ (end place : ℕ) (out : List ℕ) (sent : ℕ) (back : List ℕ) (retu
   unfolding showTo if_then_else_
   place-small e z =
       let f = sym e ∙ z in
-      by-test (eqb end 1) (λ t. showable ToConsole place out sent back returned (rw t at f) .least)
+      by-test (eqb end 1) (λ t. showable Back place out sent back returned (rw t at f) .least)
       (λ n.
-      by-test (eqb end 2) (λ t. showable ToController place out sent back returned (rw (n, t) at f) .least)
-      (λ m. let h = showable ToConsole 64 out sent back returned (rw (n, m) at f) .least in absurd (omega (arith, h))))
+      by-test (eqb end 2) (λ t. showable Out place out sent back returned (rw (n, t) at f) .least)
+      (λ m. let h = showable Back 64 out sent back returned (rw (n, m) at f) .least in absurd (omega (arith, h))))
 
 pub ruleset shows-to = (show-console, show-controller, show-no-end)
 

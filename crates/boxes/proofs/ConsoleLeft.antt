@@ -17,31 +17,27 @@ use Rattle.wire.specs.declared.Direction.the-variants.{ToConsole}
 use Rattle.wire.specs.declared.Head.the-variants as head
 use Rattle.wire.specs.declared.ReadHead.{ReadHead}
 use Rattle.wire.specs.declared.ReadHead.the-variants as read-head
-use Rattle.protocol.specs.Supply.{counted, largest}
+use Rattle.protocol.specs.Supply.{numbering, largest}
+use Rattle.protocol.specs.Letters.{ConsoleAsk, to-put, to-send-needI, to-send-data}
 use Rattle.protocol.specs.Ends as rules
-use Rattle.protocol.specs.Relabel.{in-console-act}
 use Rattle.protocol.specs.Bears.{Console-bears}
 use Rattle.protocol.specs.Lists.{Opt}
 use Rattle.protocol.specs.WellFormed.{Number, Given, Good, Console-handed-ok, Console-ok}
 use Rattle.protocol.proofs.Ends.{console-refused}
-use Rattle.protocol.proofs.Supply.{counted-lawful}
+use Rattle.protocol.proofs.Supply.{numbering-lawful}
 use Rattle.protocol.proofs.WellFormed.{console-acts-ok}
-use Rattle.ends.specs.Console as console
 use Rattle.ends.specs.Fields.{consoleOk}
 use Rattle.ends.specs.InRules.{consoleMeans, consoleBack}
 use Rattle.ends.specs.Means.{forConsole}
 use Rattle.ends.specs.Packets.{readForConsole}
 use Rattle.ends.proofs.Telling.{number, refused-in-rules}
 use Rattle.ends.specs.declared.Report.the-variants as report
-use Rattle.ends.specs.declared.ForConsole.{ForConsole}
-use Rattle.ends.specs.declared.console.Act.{Act}
-use Rattle.ends.specs.declared.console.Act.the-variants as act
 use Rattle.ends.specs.declared.fields.Console.{Console}
 use Rattle.channels.specs.Packets.{asToConsole, toConsoleRead}
 use Rattle.channels.specs.Table.{goes}
 use Rattle.channels.proofs.Packets.{ToConsoleOk, to-console-coded}
-use Rattle.alone.specs.ConsoleAlone.{ConsoleAlone, consoleTold, consoleStepped, consoleAlone}
-use Rattle.alone.proofs.ByAct.{consoleCame, console-by-act}
+use Rattle.alone.specs.ConsoleAlone.{ConsoleAlone, consoleActs, consoleAlone}
+use Rattle.alone.proofs.Calls.{consoleHeard, ConsoleActOf, console-by-act}
 use Rattle.bench.proofs.Knowing.{console-good}
 use Rattle.bench.proofs.Standing.{console-stands}
 use Rattle.boxes.specs.State.{isRefusal}
@@ -50,24 +46,21 @@ use Rattle.boxes.proofs.ConsoleTrips.{Typed}
 use Rattle.boxes.proofs.RefusalNumbers.{one, two, twelve, fifteen, rules-number, head-number}
 use Rattle.boxes.proofs.Told.{Refusal}
 
-abbrev handed : List ℕ → Act → rules.ConsoleAct (List ℕ)
-handed m a = in-console-act (λ _. m) (console.act a)
-
 -- ## The number of a refusal
 
 module _ (c : Console) (m packet reply : List ℕ) where
   abbrev Numbers : ConsoleAlone → Type 0
   Numbers r = (n : ℕ) → r .outcome .report ≡ report.Refused n → Refusal n
 
-  acts-number : (a : Act) → Numbers (consoleTold (consoleStepped c a m) reply)
-  unfolding consoleStepped
+  acts-number : (a : rules.ConsoleAct (List ℕ)) → Numbers (consoleActs c reply a)
+  unfolding consoleActs
   acts-number a n e =
-      let r = refused-in-rules (rules.console-step counted isMessage (consoleMeans c) (handed m a) .report) n e in
-      rules-number (rules.console-rules counted isMessage (consoleMeans c) (handed m a)) n (console-refused counted isMessage (consoleMeans c) (handed m a) n .0 r)
+      let r = refused-in-rules (rules.console-step numbering isMessage (consoleMeans c) a .report) n e in
+      rules-number (rules.console-rules numbering isMessage (consoleMeans c) a) n (console-refused numbering isMessage (consoleMeans c) a n .0 r)
 
   pub console-refusal-number : (l : ℕ) → Numbers (consoleAlone c l m packet reply)
   console-refusal-number l =
-      console-by-act Refusal one two twelve fifteen c m packet reply Numbers (λ k h n e. subst Refusal (ap number e) h) (λ a came ok. acts-number a) l (head-number packet)
+      console-by-act Refusal one two twelve fifteen c m packet reply Numbers (λ k h n e. subst Refusal (ap number e) h) (head-number packet) l (λ x k e f a g ok. acts-number a)
 
 -- ## What is left without one
 
@@ -85,16 +78,16 @@ head-good (read-head.Is (head.Ok i)) g = g refl
 head-good (read-head.Is (head.Lost i)) g = g refl
 head-good (read-head.Is (head.Done i)) g = tt
 
-handed-good : (m : List ℕ) (p : ReadHead) → Opt ToConsoleOk (forConsole (readForConsole p)) → (a : Act) → consoleCame p a → Console-handed-ok counted (handed m a)
-handed-good m p g act.Put e = tt
-handed-good m p g act.SendNeedI e = tt
-handed-good m p g act.SendData e = tt
-handed-good m p g (act.Take x) e = subst (λ (y : ForConsole). Opt ToConsoleOk (forConsole y)) (sym e) g
-handed-good m p g act.GoDown e = tt
-handed-good m p g act.ComeBack e = tt
+handed-good : (m packet : List ℕ) → Opt ToConsoleOk (consoleHeard packet) → (k : ConsoleAsk) (a : rules.ConsoleAct (List ℕ)) → ConsoleActOf m packet k a → Console-handed-ok numbering a
+handed-good m packet g to-put a e = subst (Console-handed-ok numbering) (sym e) tt
+handed-good m packet g to-send-needI a e = subst (Console-handed-ok numbering) (sym e) tt
+handed-good m packet g to-send-data a e = subst (Console-handed-ok numbering) (sym e) tt
+handed-good m packet g ConsoleAsk.to-take a e = subst (Console-handed-ok numbering) (sym (e .1 .1)) (subst (Opt ToConsoleOk) (e .1 .0) g)
+handed-good m packet g ConsoleAsk.to-go-down a e = subst (Console-handed-ok numbering) (sym e) tt
+handed-good m packet g ConsoleAsk.to-come-back a e = subst (Console-handed-ok numbering) (sym e) tt
 
 -- numbers of the rules fit into their four bytes
-pub number-below : (n : ℕ) → Number counted n → n < 2 ^ 32
+pub number-below : (n : ℕ) → Number numbering n → n < 2 ^ 32
 number-below n h = let k = leb-true n largest (and-right (leb 1 n) (leb n largest) h) in omega (arith, k)
 
 pub used-below : (n : ℕ) → leb n largest ≡ true → n < 2 ^ 32
@@ -104,7 +97,7 @@ message-long : (m : List ℕ) → isMessage m ≡ true → length m ≡ 16
 unfolding isMessage
 message-long m h = eqb-true (length m) 16 (and-left (eqb (length m) 16) (cells m) h)
 
-fields-typed : (u : ℕ) (k : rules.ConsoleMode (List ℕ)) (up : Bool) → u < 2 ^ 32 → Console-bears (Given counted u) (Number counted) (Good isMessage) k → Typed (consoleBack (record { numbers = u; mode = k; up = up }))
+fields-typed : (u : ℕ) (k : rules.ConsoleMode (List ℕ)) (up : Bool) → u < 2 ^ 32 → Console-bears (Given numbering u) (Number numbering) (Good isMessage) k → Typed (consoleBack (record { numbers = u; mode = k; up = up }))
 fields-typed u rules.ConsoleMode.idle up h b = record { used = h; j = omega arith; last = omega arith; message = refl }
 fields-typed u (rules.in-needI j m) up h b = record { used = h; j = number-below j (b .0 .0); last = omega arith; message = message-long m (b .1) }
 fields-typed u (rules.in-send l m) up h b = record { used = h; j = omega arith; last = number-below l (b .0); message = message-long m (b .1) }
@@ -112,7 +105,7 @@ fields-typed u (rules.in-send l m) up h b = record { used = h; j = omega arith; 
 abbrev pub ConsoleLeft : Console → Type 0
 ConsoleLeft c = (consoleOk c ≡ true) × Typed c
 
-fields-left : (e : rules.Console ℕ (List ℕ)) → Console-ok counted isMessage e → ConsoleLeft (consoleBack e)
+fields-left : (e : rules.Console ℕ (List ℕ)) → Console-ok numbering isMessage e → ConsoleLeft (consoleBack e)
 fields-left e w =
     (console-stands (e .numbers) (e .mode) (e .up) (w .mode) .0, fields-typed (e .numbers) (e .mode) (e .up) (used-below (e .numbers) (w .numbers)) (w .mode))
 
@@ -120,15 +113,15 @@ module _ (c : Console) (typed : ConsoleTyped c) (m packet reply : List ℕ) (byt
   abbrev Leaves : ConsoleAlone → Type 0
   Leaves r = isRefusal (r .outcome .report) ≡ false → ConsoleLeft (r .outcome .console)
 
-  acts-leave : (a : Act) → consoleCame (packetRead packet .head) a → consoleOk c ≡ true → Leaves (consoleTold (consoleStepped c a m) reply)
-  unfolding consoleStepped rules.console-step if_then_else_
-  acts-leave a came y e =
-      let k = refusal (rules.console-rules counted isMessage (consoleMeans c) (handed m a)) in
-      let given = handed-good m (packetRead packet .head) (head-good (packetRead packet .head) (packet-good packet bytes)) a came in
+  acts-leave : (k : ConsoleAsk) (a : rules.ConsoleAct (List ℕ)) → ConsoleActOf m packet k a → consoleOk c ≡ true → Leaves (consoleActs c reply a)
+  unfolding consoleActs rules.console-step if_then_else_
+  acts-leave x a came y e =
+      let k = refusal (rules.console-rules numbering isMessage (consoleMeans c) a) in
+      let given = handed-good m packet (head-good (packetRead packet .head) (packet-good packet bytes)) x a came in
       by-test (eqb k 0)
-      (λ z. rw z (fields-left _ (console-acts-ok counted counted-lawful isMessage (consoleMeans c) (handed m a) (eqb-true k 0 z) (console-good c (typed .message) y (typed .used) (typed .last)) given .0)))
+      (λ z. rw z (fields-left _ (console-acts-ok numbering numbering-lawful isMessage (consoleMeans c) a (eqb-true k 0 z) (console-good c (typed .message) y (typed .used) (typed .last)) given .0)))
       (λ z. absurd (true≢false (rw z at e)))
 
   pub console-left : (l : ℕ) → Leaves (consoleAlone c l m packet reply)
   console-left l =
-      console-by-act Refusal one two twelve fifteen c m packet reply Leaves (λ k h e. absurd (true≢false e)) acts-leave l (head-number packet)
+      console-by-act Refusal one two twelve fifteen c m packet reply Leaves (λ k h e. absurd (true≢false e)) (head-number packet) l (λ x k e f. acts-leave k)

@@ -1,7 +1,7 @@
 -- What a controller run alone comes to: a refusal's number is from 1 to 31; without one it leaves a well-formed controller, its fields of their
 -- types.
 use Prim.Native.Nat.{ℕ, _^_, _<_}
-use mathlib.Core.Path.{_≡_, refl, sym, ap, subst, transport}
+use mathlib.Core.Path.{_≡_, refl, sym, ap, subst}
 use mathlib.Core.Bool.{Bool, true, false, true≢false}
 use mathlib.Core.List.{List}
 use mathlib.Core.Option.{Option, Option·map}
@@ -17,17 +17,16 @@ use Rattle.wire.specs.declared.Direction.the-variants.{ToController}
 use Rattle.wire.specs.declared.Head.the-variants as head
 use Rattle.wire.specs.declared.ReadHead.{ReadHead}
 use Rattle.wire.specs.declared.ReadHead.the-variants as read-head
-use Rattle.wire.specs.declared.ReadPacket.{ReadPacket}
-use Rattle.protocol.specs.Supply.{counted}
+use Rattle.protocol.specs.Supply.{numbering}
+use Rattle.protocol.specs.Letters.{ControllerAsk, to-send-offer, to-send-ok}
 use Rattle.protocol.specs.Ends as rules
-use Rattle.protocol.specs.Relabel.{in-packet, in-controller-act}
+use Rattle.protocol.specs.Relabel.{in-packet}
 use Rattle.protocol.specs.Bears.{Controller-bears}
 use Rattle.protocol.specs.Lists.{Opt}
 use Rattle.protocol.specs.WellFormed.{Number, Given, Controller-handed-ok, Controller-ok}
 use Rattle.protocol.proofs.Ends.{controller-refused}
-use Rattle.protocol.proofs.Supply.{counted-lawful}
+use Rattle.protocol.proofs.Supply.{numbering-lawful}
 use Rattle.protocol.proofs.WellFormed.{controller-acts-ok}
-use Rattle.ends.specs.Controller as controller
 use Rattle.ends.specs.Fields.{controllerOk}
 use Rattle.ends.specs.InRules.{controllerMeans, controllerBack}
 use Rattle.ends.specs.Means.{forController}
@@ -35,14 +34,12 @@ use Rattle.ends.specs.Packets.{readForController}
 use Rattle.ends.proofs.Telling.{number, refused-in-rules}
 use Rattle.ends.specs.declared.Report.the-variants as report
 use Rattle.ends.specs.declared.ForController.{ForController}
-use Rattle.ends.specs.declared.controller.Act.{Act}
-use Rattle.ends.specs.declared.controller.Act.the-variants as act
 use Rattle.ends.specs.declared.fields.Controller.{Controller}
 use Rattle.channels.specs.Packets.{asToController, toControllerRead}
 use Rattle.channels.specs.Table.{goes}
 use Rattle.channels.proofs.Packets.{ToControllerOk, to-controller-coded}
-use Rattle.alone.specs.ControllerAlone.{ControllerAlone, controllerTold, controllerStepped, controllerAlone}
-use Rattle.alone.proofs.ByAct.{controllerCame, controller-by-act}
+use Rattle.alone.specs.ControllerAlone.{ControllerAlone, controllerActs, controllerAlone}
+use Rattle.alone.proofs.Calls.{controllerHeardAs, ControllerActOf, controller-by-act}
 use Rattle.bench.proofs.Knowing.{controller-good}
 use Rattle.bench.proofs.Standing.{controller-stands}
 use Rattle.boxes.specs.State.{isRefusal}
@@ -52,24 +49,21 @@ use Rattle.boxes.proofs.ControllerTrips.{Typed}
 use Rattle.boxes.proofs.RefusalNumbers.{one, two, twelve, fifteen, rules-number, head-number}
 use Rattle.boxes.proofs.Told.{Refusal}
 
-abbrev handed : List ℕ → Act → rules.ControllerAct (List ℕ)
-handed m a = in-controller-act (λ _. m) (controller.act a)
-
 -- ## The number of a refusal
 
 module _ (c : Controller) (packet reply : List ℕ) where
   abbrev Numbers : ControllerAlone → Type 0
   Numbers r = (n : ℕ) → r .outcome .report ≡ report.Refused n → Refusal n
 
-  acts-number : (a : Act) (m : List ℕ) → Numbers (controllerTold (controllerStepped c a m) reply)
-  unfolding controllerStepped
-  acts-number a m n e =
-      let r = refused-in-rules (rules.controller-step counted (controllerMeans c) (handed m a) .report) n e in
-      rules-number (rules.controller-rules counted (controllerMeans c) (handed m a)) n (controller-refused counted (controllerMeans c) (handed m a) n .0 r)
+  acts-number : (a : rules.ControllerAct (List ℕ)) → Numbers (controllerActs c reply a)
+  unfolding controllerActs
+  acts-number a n e =
+      let r = refused-in-rules (rules.controller-step numbering (controllerMeans c) a .report) n e in
+      rules-number (rules.controller-rules numbering (controllerMeans c) a) n (controller-refused numbering (controllerMeans c) a n .0 r)
 
   pub controller-refusal-number : (l : ℕ) → Numbers (controllerAlone c l packet reply)
   controller-refusal-number l =
-      controller-by-act Refusal one two twelve fifteen c packet reply Numbers (λ k h n e. subst Refusal (ap number e) h) (λ a m came ok. acts-number a m) l (head-number packet)
+      controller-by-act Refusal one two twelve fifteen c packet reply Numbers (λ k h n e. subst Refusal (ap number e) h) (head-number packet) l (λ x k e f a g ok. acts-number a)
 
 -- ## What is left without one
 
@@ -90,14 +84,15 @@ head-good (read-head.Is (head.Ok i)) m g = tt
 head-good (read-head.Is (head.Lost i)) m g = tt
 head-good (read-head.Is (head.Done i)) m g = g refl
 
-handed-good : (p : ReadPacket) → Opt ToControllerOk (came-in (p .message) (readForController (p .head))) → (a : Act) (m : List ℕ) → controllerCame p a m → Controller-handed-ok counted isMessage (handed m a)
-handed-good p g act.SendOffer m e = tt
-handed-good p g act.SendOk m e = tt
-handed-good p g (act.Take x) m e = transport (λ i. Opt ToControllerOk (came-in (sym (e .1) i) (sym (e .0) i))) g
-handed-good p g act.GoDown m e = tt
-handed-good p g act.ComeBack m e = tt
+handed-good : (packet : List ℕ) → Opt ToControllerOk (controllerHeardAs packet) → (k : ControllerAsk) (a : rules.ControllerAct (List ℕ)) → ControllerActOf packet k a → Controller-handed-ok numbering isMessage a
+handed-good packet g to-send-offer a e = subst (Controller-handed-ok numbering isMessage) (sym e) tt
+handed-good packet g to-send-ok a e = subst (Controller-handed-ok numbering isMessage) (sym e) tt
+handed-good packet g ControllerAsk.to-take a e =
+    subst (Controller-handed-ok numbering isMessage) (sym (e .1 .1)) (subst (Opt ToControllerOk) (e .1 .0) g)
+handed-good packet g ControllerAsk.to-go-down a e = subst (Controller-handed-ok numbering isMessage) (sym e) tt
+handed-good packet g ControllerAsk.to-come-back a e = subst (Controller-handed-ok numbering isMessage) (sym e) tt
 
-fields-typed : (u : ℕ) (k : rules.ControllerMode) (up : Bool) → u < 2 ^ 32 → Controller-bears (Number counted) (Given counted u) k → Typed (controllerBack (record { numbers = u; mode = k; up = up }))
+fields-typed : (u : ℕ) (k : rules.ControllerMode) (up : Bool) → u < 2 ^ 32 → Controller-bears (Number numbering) (Given numbering u) k → Typed (controllerBack (record { numbers = u; mode = k; up = up }))
 fields-typed u rules.ControllerMode.idle up h b = record { used = h; j = omega arith; i = omega arith; last = omega arith }
 fields-typed u (rules.in-accept j i) up h b = record { used = h; j = number-below j (b .0); i = number-below i (b .1 .0); last = omega arith }
 fields-typed u (rules.in-ack l) up h b = record { used = h; j = omega arith; i = omega arith; last = number-below l (b .0) }
@@ -105,7 +100,7 @@ fields-typed u (rules.in-ack l) up h b = record { used = h; j = omega arith; i =
 abbrev pub ControllerLeft : Controller → Type 0
 ControllerLeft c = (controllerOk c ≡ true) × Typed c
 
-fields-left : (e : rules.Controller ℕ) → Controller-ok counted e → ControllerLeft (controllerBack e)
+fields-left : (e : rules.Controller ℕ) → Controller-ok numbering e → ControllerLeft (controllerBack e)
 fields-left e w =
     (controller-stands (e .numbers) (e .mode) (e .up) (w .mode) .0, fields-typed (e .numbers) (e .mode) (e .up) (used-below (e .numbers) (w .numbers)) (w .mode))
 
@@ -113,16 +108,16 @@ module _ (c : Controller) (typed : ControllerTyped c) (packet reply : List ℕ) 
   abbrev Leaves : ControllerAlone → Type 0
   Leaves r = isRefusal (r .outcome .report) ≡ false → ControllerLeft (r .outcome .controller)
 
-  acts-leave : (a : Act) (m : List ℕ) → controllerCame (packetRead packet) a m → controllerOk c ≡ true → Leaves (controllerTold (controllerStepped c a m) reply)
-  unfolding controllerStepped rules.controller-step if_then_else_
-  acts-leave a m came y e =
-      let k = refusal (rules.controller-rules counted (controllerMeans c) (handed m a)) in
+  acts-leave : (k : ControllerAsk) (a : rules.ControllerAct (List ℕ)) → ControllerActOf packet k a → controllerOk c ≡ true → Leaves (controllerActs c reply a)
+  unfolding controllerActs rules.controller-step if_then_else_
+  acts-leave x a came y e =
+      let k = refusal (rules.controller-rules numbering (controllerMeans c) a) in
       let p = packetRead packet in
-      let given = handed-good p (head-good (p .head) (p .message) (packet-good packet bytes)) a m came in
+      let given = handed-good packet (head-good (p .head) (p .message) (packet-good packet bytes)) x a came in
       by-test (eqb k 0)
-      (λ z. rw z (fields-left _ (controller-acts-ok counted counted-lawful isMessage (controllerMeans c) (handed m a) (controller-good c y y (typed .used) (typed .j)) given .0)))
+      (λ z. rw z (fields-left _ (controller-acts-ok numbering numbering-lawful isMessage (controllerMeans c) a (controller-good c y y (typed .used) (typed .j)) given .0)))
       (λ z. absurd (true≢false (rw z at e)))
 
   pub controller-left : (l : ℕ) → Leaves (controllerAlone c l packet reply)
   controller-left l =
-      controller-by-act Refusal one two twelve fifteen c packet reply Leaves (λ k h e. absurd (true≢false e)) acts-leave l (head-number packet)
+      controller-by-act Refusal one two twelve fifteen c packet reply Leaves (λ k h e. absurd (true≢false e)) (head-number packet) l (λ x k e f. acts-leave k)

@@ -8,7 +8,7 @@ use lib.Dec.{eqb}
 use Rattle.ground.specs.Choice.{if_then_else_}
 use Rattle.wire.specs.Frame.{field}
 use Rattle.wire.specs.Number.{value}
-use Rattle.wire.proofs.Copies.{copied, rest-lent}
+use Rattle.ground.proofs.Copies.{copied, rest-lent}
 use Rattle.ends.specs.declared.fields.Console.{Console}
 use Rattle.ends.specs.declared.fields.Controller.{Controller}
 use Rattle.boxes.specs.Console as console

@@ -18,13 +18,13 @@ use Rattle.wire.specs.Number.{value}
 use Rattle.wire.specs.Packet.{kindOf, secondOf, numbered, heads, headOf, headAt, carries, readRefusal, packetRead}
 use Rattle.wire.specs.declared.ReadHead.{ReadHead}
 use Rattle.wire.specs.declared.ReadHead.the-variants.{Refused, Is}
-use Rattle.protocol.specs.Supply.{counted}
+use Rattle.protocol.specs.Supply.{numbering}
 use Rattle.protocol.specs.Letters.{Letter, letter}
 use Rattle.protocol.specs.Bench as rules
 use Rattle.protocol.proofs.Bench.{step-refused}
 use Rattle.ends.proofs.Telling.{number, refused-in-rules}
 use Rattle.ends.specs.declared.Report.the-variants as report
-use Rattle.alone.proofs.ByAct.{HeadIs}
+use Rattle.alone.proofs.Calls.{HeadIs}
 use Rattle.bench.specs.Means.{benchOk, benchMeans}
 use Rattle.bench.specs.Promise.{benchRefused, benchTold, stepOf, benchStep}
 use Rattle.bench.specs.declared.Action.{Action}
@@ -101,8 +101,8 @@ module _ (b : Bench) (a : Action) (out back : List ℕ) where
       by-test (benchOk b out back)
       (λ y.
       let act = rules.action l (a .place) (a .copies) (a .message) in
-      let r = refused-in-rules (rules.step counted isMessage (benchMeans b out back) act .report) n (rw y at e) in
-      rules-number (rules.rules-of counted isMessage (benchMeans b out back) act) n (step-refused counted isMessage (benchMeans b out back) act n .0 r))
+      let r = refused-in-rules (rules.step numbering isMessage (benchMeans b out back) act .report) n (rw y at e) in
+      rules-number (rules.rules-of numbering isMessage (benchMeans b out back) act) n (step-refused numbering isMessage (benchMeans b out back) act n .0 r))
       (λ z. subst Refusal (ap number (rw z at e)) two)
 
   pub bench-refusal-number : (n : ℕ) → benchStep b a out back .outcome .report ≡ report.Refused n → Refusal n

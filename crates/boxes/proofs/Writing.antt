@@ -7,8 +7,8 @@ use native.Mathlib.Omega.{arith}
 use lib.ListN.{length, take, drop, drop-of-length-le, length-drop}
 use lib.Seq.{take-length, take-at, drop-at}
 use Rattle.wire.specs.Number.{bytesOf}
-use Rattle.wire.proofs.Copies.{copied, rest-lent}
-use Rattle.wire.proofs.Elements.{elements, rest-elements}
+use Rattle.ground.proofs.Copies.{copied, rest-lent}
+use Rattle.ground.proofs.Elements.{elements, rest-elements}
 use Rattle.ends.specs.declared.fields.Console.{Console}
 use Rattle.ends.specs.declared.fields.Controller.{Controller}
 use Rattle.boxes.specs.State.{flag}

@@ -19,12 +19,10 @@ use Rattle.wire.proofs.Vectors.{needI-1, needI-1-read}
 use Rattle.protocol.specs.Supply.{next-counted}
 use Rattle.protocol.specs.Letters.{line, letters, among, letter}
 use Rattle.protocol.specs.Ends as rules
-use Rattle.letters.specs.Lines.{lineOf}
 use Rattle.ends.specs.Fields.{consoleOk, consoleMode, freshConsole, consoleWith, controllerOk, controllerMode, freshController, downedController}
 use Rattle.ends.specs.declared.console.Mode.the-variants.{NeedI}
-use Rattle.alone.specs.Alone.{lent, early}
-use Rattle.alone.specs.ConsoleAlone.{consoleStepped, consoleAlone}
-use Rattle.alone.specs.ControllerAlone.{controllerStepped, controllerAlone}
+use Rattle.alone.specs.ConsoleAlone.{consoleActs, consoleAlone}
+use Rattle.alone.specs.ControllerAlone.{controllerActs, controllerLent, controllerAlone}
 use Rattle.boxes.specs.State.{marks, written}
 use Rattle.boxes.specs.Console as console
 use Rattle.boxes.specs.Controller as controller
@@ -44,7 +42,7 @@ abbrev putting : List ℕ
 putting = console.consoleBytes (consoleWith (record { 0 = 1 }) (NeedI (record { 0 = 1 })) true spaces)
 
 put-told : (packet reply : List ℕ) → console.consoleStep fresh-console 0x50 spaces packet reply ≡ record { told = 32; state = putting; reply = reply }
-unfolding console.consoleBytes console.consoleAt console.isState console.fieldsAt marks written bytesOf value consoleAlone consoleOk consoleMode consoleStepped rules.ends next-counted isMessage cells filled line letters among letter lineOf
+unfolding console.consoleBytes console.consoleAt console.isState console.fieldsAt marks written bytesOf value consoleAlone consoleOk consoleMode consoleActs rules.ends next-counted isMessage cells filled line letters among letter
 put-told packet reply = refl
 
 module _ (κs : Lfts 4) (a : Dens κs console-kinds.ps) (n : ℕ) (s : AtExit (endedOf 4 console-kinds.ps console-kinds.r) κs) (fresh : now (a .0) ≡ fresh-console) (puts : a .1 .0 ≡ 0x50) (message : now (a .1 .1 .0) ≡ spaces) (meets : console-step.Post κs a n s) where
@@ -64,7 +62,7 @@ module _ (κs : Lfts 4) (a : Dens κs console-kinds.ps) (n : ℕ) (s : AtExit (e
 
 -- no bytes at all are a state that is not well formed
 untrusted-told : (packet reply : List ℕ) → console.consoleStep [] 0x50 spaces packet reply ≡ record { told = 2; state = []; reply = reply }
-unfolding console.consoleAt console.isState written consoleAlone consoleOk consoleMode consoleStepped early rules.ends next-counted isMessage cells filled line letters among letter lineOf
+unfolding console.consoleAt console.isState written consoleAlone consoleOk consoleMode consoleActs rules.ends next-counted isMessage cells filled line letters among letter
 untrusted-told packet reply = refl
 
 module _ (κs : Lfts 4) (a : Dens κs console-kinds.ps) (n : ℕ) (s : AtExit (endedOf 4 console-kinds.ps console-kinds.r) κs) (none : now (a .0) ≡ []) (puts : a .1 .0 ≡ 0x50) (message : now (a .1 .1 .0) ≡ spaces) (meets : console-step.Post κs a n s) where
@@ -84,7 +82,7 @@ pub console-keeps-a-refusal : RulesOut console-kinds.ps console-kinds.r console-
 console-keeps-a-refusal κs a x s e w p = console-trusts κs a x s (e .0) (e .1) (e .2) p (λ q. true≢false (sym w ∙ ap keeps q))
 
 fall-told : (message packet reply : List ℕ) → console.consoleStep fresh-console 0x43 message packet reply .told ≡ 0
-unfolding console.consoleBytes console.consoleAt console.isState console.fieldsAt marks written bytesOf value consoleAlone consoleOk consoleMode consoleStepped rules.ends next-counted isMessage cells filled line letters among letter lineOf
+unfolding console.consoleBytes console.consoleAt console.isState console.fieldsAt marks written bytesOf value consoleAlone consoleOk consoleMode consoleActs rules.ends next-counted isMessage cells filled line letters among letter
 fall-told message packet reply = refl
 
 pub console-keeps-of-no-number : RulesOut console-kinds.ps console-kinds.r console-step.Post (λ κs a. (now (a .0) ≡ fresh-console) × (a .1 .0 ≡ 0x43)) (λ κs a x s. keeps x ≡ true)
@@ -101,7 +99,7 @@ abbrev down : List ℕ
 down = controller.controllerBytes (downedController (record { 0 = 0 }))
 
 down-told : (packet reply out : List ℕ) → controller.controllerStep fresh-controller 0x58 packet reply out ≡ record { told = 0; state = down; reply = reply; delivered = out }
-unfolding controller.controllerBytes controller.controllerAt controller.isState controller.fieldsAt marks written bytesOf value controllerAlone controllerOk controllerMode controllerStepped rules.ends line letters among letter lineOf
+unfolding controller.controllerBytes controller.controllerAt controller.isState controller.fieldsAt marks written bytesOf value controllerAlone controllerOk controllerMode controllerActs rules.ends line letters among letter
 down-told packet reply out = refl
 
 module _ (κs : Lfts 4) (a : Dens κs controller-kinds.ps) (n : ℕ) (s : AtExit (endedOf 4 controller-kinds.ps controller-kinds.r) κs) (fresh : now (a .0) ≡ fresh-controller) (falls : a .1 .0 ≡ 0x58) (meets : controller-step.Post κs a n s) where
@@ -123,7 +121,7 @@ controller-changed-by-a-refusal κs a x s e w p = w .1 (ap (λ (r : List ℕ × 
 
 -- needI takes a number, what is refused takes none, and going down takes none
 need-told : (out : List ℕ) → controller.controllerStep fresh-controller 0x52 needI-1 (replicate 32 0) out .told ≡ 32
-unfolding controller.controllerBytes controller.controllerAt controller.isState controller.fieldsAt marks written bytesOf value controllerAlone controllerOk controllerMode controllerStepped rules.ends next-counted lent line letters among letter lineOf
+unfolding controller.controllerBytes controller.controllerAt controller.isState controller.fieldsAt marks written bytesOf value controllerAlone controllerOk controllerMode controllerActs controllerLent rules.ends next-counted line letters among letter
 need-told out = rw needI-1-read
 
 pub controller-never-says-keep : RulesOut controller-kinds.ps controller-kinds.r controller-step.Post (λ κs a. (now (a .0) ≡ fresh-controller) × (a .1 .0 ≡ 0x52) × (now (a .1 .1 .0) ≡ needI-1) × (now (a .1 .1 .1 .0) ≡ replicate 32 0)) (λ κs a x s. keeps x ≡ false)
@@ -132,7 +130,7 @@ controller-never-says-keep κs a x s e w p =
     true≢false (sym (ap keeps q) ∙ w)
 
 untrusted-down : (packet reply out : List ℕ) → controller.controllerStep [] 0x58 packet reply out .told ≡ 2
-unfolding controller.controllerAt controller.isState written controllerAlone controllerOk controllerMode controllerStepped early rules.ends line letters among letter lineOf
+unfolding controller.controllerAt controller.isState written controllerAlone controllerOk controllerMode controllerActs rules.ends line letters among letter
 untrusted-down packet reply out = refl
 
 pub controller-keeps-a-refusal : RulesOut controller-kinds.ps controller-kinds.r controller-step.Post (λ κs a. (now (a .0) ≡ []) × (a .1 .0 ≡ 0x58)) (λ κs a x s. keeps x ≡ true)

@@ -29,7 +29,7 @@ use Rattle.ends.specs.Fields.{consoleOk, consoleMode, consoleWith, controllerOk
 use Rattle.ends.specs.declared.console.Mode.the-variants.{NeedI}
 use Rattle.ends.specs.declared.Report.the-variants as report
 use Rattle.channels.specs.Packets.{toControllerBytes}
-use Rattle.channels.specs.Shown.{showRefusal}
+use Rattle.tables.specs.Shown.{showRefusal}
 use Rattle.channels.specs.Table.{laid, channel, packets, placesOk, tableOk}
 use Rattle.bench.specs.Means.{benchOk, benchMeans, benchBack}
 use Rattle.bench.specs.Promise.{Result, benchRefused, benchTold, benchStep, benchFresh}

@@ -6,10 +6,10 @@ use lib.ListN.{length, getD}
 use lib.Dec.{eqb}
 use Rattle.ground.specs.Choice.{if_then_else_}
 use Rattle.wire.specs.Frame.{field}
-use Rattle.wire.specs.declared.Direction.the-variants.{ToController, ToConsole}
 use Rattle.wire.specs.declared.I.{I}
 use Rattle.wire.specs.declared.J.{J}
-use Rattle.channels.specs.Shown.{showRefusal}
+use Rattle.tables.specs.Shown.{showRefusal}
+use Rattle.tables.specs.declared.shown.Way.the-variants.{Out, Back}
 use Rattle.bench.specs.Promise.{Result, benchStep, benchFresh}
 use Rattle.bench.specs.declared.Action.{Action}
 use Rattle.bench.specs.declared.Bench.{Bench}
@@ -79,9 +79,9 @@ stepDelivered s a out back d = deliveredTo (stepResult s a out back .outcome .re
 -- of the channel that leads to an end, 1 console, 2 controller; any other end has no places, and no channel has a place 64
 unfoldable pub showTo : ℕ → ℕ → List ℕ → ℕ → List ℕ → ℕ → ℕ
 showTo end place out sent back returned =
-    if eqb end 1 then showRefusal ToConsole place out sent back returned
-    else if eqb end 2 then showRefusal ToController place out sent back returned
-    else showRefusal ToConsole 64 out sent back returned
+    if eqb end 1 then showRefusal Back place out sent back returned
+    else if eqb end 2 then showRefusal Out place out sent back returned
+    else showRefusal Back 64 out sent back returned
 
 -- it looks only at lengths, counts and place: 2, then 3
 unfoldable pub showAt : List ℕ → List ℕ → List ℕ → ℕ → ℕ → ℕ

@@ -11,7 +11,7 @@ use crate::state::told;
 use bench::Action;
 use bench::Bench;
 use ends::Report;
-use wire::Direction;
+use tables::Way;
 use wire::I;
 use wire::J;
 ghost use mathlib.Core.Path.{_≡_};
@@ -162,12 +162,12 @@ fn show_to(end: u8, place: usize, out: &[u8], sent: usize, back: &[u8], returned
     ensures { λ r. ⌜ r ≡ showTo end place (now (out .entry)) sent (now (back .entry)) returned ⌝ }
 {
     if end == 1 {
-        return channels::show_refusal(Direction::ToConsole, place, out, sent, back, returned);
+        return tables::show_refusal(Way::Back, place, out, sent, back, returned);
     }
     if end == 2 {
-        return channels::show_refusal(Direction::ToController, place, out, sent, back, returned);
+        return tables::show_refusal(Way::Out, place, out, sent, back, returned);
     }
-    channels::show_refusal(Direction::ToConsole, 64, out, sent, back, returned)
+    tables::show_refusal(Way::Back, 64, out, sent, back, returned)
 }
 
 // Where the packet at a place lies in the table of the channel that leads to an end.

@@ -189,7 +189,7 @@ pub extern "C" fn nooseless_console_step(
 {
     let c = console_at(state);
     let used = c.used;
-    let done = alone::console::step(c, letter, *message, packet, reply);
+    let done = alone::console::step(c, letter, message, packet, reply);
     let report = done.report;
     let after = done.console;
     keep(state, report, after);

@@ -1,6 +1,6 @@
 -- Demand 3 of the bench for C, from that of the bench's step: through its bytes the state is, call after call, the fields that the bench comes to.
 use Prim.Native.Nat.{ℕ, _<_, _≤_, _^_}
-use mathlib.Core.Path.{_≡_, refl, sym, ap, ap₂, subst, _∙_}
+use mathlib.Core.Path.{_≡_, refl, sym, ap, ap₂, _∙_}
 use mathlib.Core.Bool.{Bool, true, false, false≢true}
 use mathlib.Core.Option.{Option}
 use mathlib.Core.List.{List, [], _∷_}
@@ -13,7 +13,7 @@ use Rattle.ground.specs.Choice.{if_then_else_}
 use Rattle.ground.proofs.Tests.{by-test, and-right}
 use Rattle.wire.specs.declared.I.{I}
 use Rattle.wire.specs.declared.J.{J}
-use Rattle.protocol.specs.Supply.{counted, largest}
+use Rattle.protocol.specs.Supply.{numbering, largest}
 use Rattle.protocol.specs.Ends as ends
 use Rattle.protocol.specs.Bench as rules
 use Rattle.protocol.specs.Bears.{Console-bears, Controller-bears}
@@ -48,10 +48,10 @@ use Rattle.demand3.specs.BenchForC.{Call, Seen, calls, freshCalls, byteS
 pub small : (n : ℕ) → leb n largest ≡ true → n < 2 ^ 32
 small n h = let k = leb-true n largest h in omega (arith, k)
 
-number-small : (n : ℕ) → Number counted n → n < 2 ^ 32
+number-small : (n : ℕ) → Number numbering n → n < 2 ^ 32
 number-small n h = small n (and-right (leb 1 n) (leb n largest) h)
 
-pub console-typed : (u : ℕ) (k : ends.ConsoleMode (List ℕ)) (up : Bool) → leb u largest ≡ true → Console-bears (Given counted u) (Number counted) (Good isMessage) k
+pub console-typed : (u : ℕ) (k : ends.ConsoleMode (List ℕ)) (up : Bool) → leb u largest ≡ true → Console-bears (Given numbering u) (Number numbering) (Good isMessage) k
     → console.Typed (consoleBack (record { numbers = u; mode = k; up = up }))
 console-typed u ends.ConsoleMode.idle up s h = record { used = small u s; j = omega arith; last = omega arith; message = refl }
 console-typed u (ends.in-needI j m) up s h =
@@ -59,7 +59,7 @@ console-typed u (ends.in-needI j m) up s h =
 console-typed u (ends.in-send l m) up s h =
     record { used = small u s; j = omega arith; last = number-small l (h .0); message = message-long m (h .1) }
 
-pub controller-typed : (u : ℕ) (k : ends.ControllerMode) (up : Bool) → leb u largest ≡ true → Controller-bears (Number counted) (Given counted u) k
+pub controller-typed : (u : ℕ) (k : ends.ControllerMode) (up : Bool) → leb u largest ≡ true → Controller-bears (Number numbering) (Given numbering u) k
     → controller.Typed (controllerBack (record { numbers = u; mode = k; up = up }))
 controller-typed u ends.ControllerMode.idle up s h =
     record { used = small u s; j = omega arith; i = omega arith; last = omega arith }
@@ -71,7 +71,7 @@ controller-typed u (ends.in-ack l) up s h =
 abbrev kept : rules.Bench ℕ (List ℕ) → List ℕ
 kept b = benchBytes (benchBack b)
 
-module _ (b : rules.Bench ℕ (List ℕ)) (w : Well-formed counted isMessage b) where
+module _ (b : rules.Bench ℕ (List ℕ)) (w : Well-formed numbering isMessage b) where
   reads-back : benchAt (kept b) ≡ benchBack b
   unfolding benchBack
   reads-back =
@@ -108,7 +108,7 @@ is-refused report.Ok e = absurd (false≢true e)
 is-refused report.Lost e = absurd (false≢true e)
 is-refused (report.Refused n) e = refl
 
-module _ (b : rules.Bench ℕ (List ℕ)) (w : Well-formed counted isMessage b) (a : Action) where
+module _ (b : rules.Bench ℕ (List ℕ)) (w : Well-formed numbering isMessage b) (a : Action) where
   abbrev result : Result
   result = benchStep (benchBack b) a (out b) (back b)
 
@@ -138,7 +138,7 @@ module _ (b : rules.Bench ℕ (List ℕ)) (w : Well-formed counted isMessage b) 
 
 -- ## All calls
 
-calls-show : (b : rules.Bench ℕ (List ℕ)) → Well-formed counted isMessage b → (l : List Call)
+calls-show : (b : rules.Bench ℕ (List ℕ)) → Well-formed numbering isMessage b → (l : List Call)
     → callsShow l (calls (kept b) (out b) (back b) l) ≡ allShown (actionsOf l) (outcomes (benchBack b) (out b) (back b) (actionsOf l))
 unfolding callsShow calls outcomes allShown
 calls-show b w [] = refl
@@ -167,8 +167,8 @@ module _ (j : J) (i : I) (s out₀ back₀ : List ℕ) (p : j .0 < 2 ^ 32) (q : 
   unfolding freshOutcomes benchFresh benchTold if_then_else_
   fresh-told = rw (eq-eqb (length out₀) 2048 m, eq-eqb (length back₀) 2048 n)
 
-  fresh-ok : Well-formed counted isMessage b
-  fresh-ok = fresh-well-formed counted isMessage (j .0) (i .0) (le-leb (j .0) largest (omega (arith, p))) (le-leb (i .0) largest (omega (arith, q)))
+  fresh-ok : Well-formed numbering isMessage b
+  fresh-ok = fresh-well-formed numbering isMessage (j .0) (i .0) (le-leb (j .0) largest (omega (arith, p))) (le-leb (i .0) largest (omega (arith, q)))
 
   pub calls-right : CallsRight j i s out₀ back₀ l
   unfolding freshCalls

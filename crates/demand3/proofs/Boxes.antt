@@ -13,7 +13,7 @@ use Rattle.ground.specs.First.{refusal}
 use Rattle.wire.specs.Packet.{packetRead, packetBytes}
 use Rattle.wire.specs.declared.I.{I}
 use Rattle.wire.specs.declared.J.{J}
-use Rattle.protocol.specs.Supply.{counted, largest}
+use Rattle.protocol.specs.Supply.{numbering, largest}
 use Rattle.protocol.specs.Letters as letters
 use Rattle.protocol.specs.Letters.{Letter, letter, line, among}
 use Rattle.protocol.specs.Ends as rules
@@ -27,7 +27,7 @@ use Rattle.protocol.specs.Plain.{Plain}
 use Rattle.protocol.specs.Demand3.{row, write, written, unnumbered, shown}
 use Rattle.protocol.specs.Radio as radio
 use Rattle.protocol.specs.Radio.{Link, Happening, aired, keeps, fails, happens, shown-of, rows-shown, rows-left, radio-log}
-use Rattle.protocol.proofs.Supply.{counted-lawful}
+use Rattle.protocol.proofs.Supply.{numbering-lawful}
 use Rattle.protocol.proofs.Lists.{if-holds}
 use Rattle.protocol.proofs.Relabel.{map-append}
 use Rattle.protocol.proofs.Ends.{console-reports}
@@ -57,7 +57,7 @@ abbrev pub Row : Type 0
 Row = List ℕ
 
 abbrev pub Ok : Link ℕ Row → Type 0
-Ok k = Link-ok counted isMessage k
+Ok k = Link-ok numbering isMessage k
 
 -- the boxes that a link of the rules stands for
 abbrev pub boxesOf : Link ℕ Row → Boxes
@@ -120,11 +120,11 @@ No-delivery rules.answered-ok = Unit {0}
 No-delivery rules.answered-lost = Unit {0}
 No-delivery (rules.refused n) = Unit {0}
 
-console-delivers-nothing : (e : rules.Console ℕ Row) (act : rules.ConsoleAct Row) → No-delivery (rules.console-step counted isMessage e act .report)
+console-delivers-nothing : (e : rules.Console ℕ Row) (act : rules.ConsoleAct Row) → No-delivery (rules.console-step numbering isMessage e act .report)
 unfolding rules.console-step
 console-delivers-nothing e act =
-    if-holds (λ (d : rules.ConsoleActed ℕ Row). No-delivery (d .report)) (eqb (refusal (rules.console-rules counted isMessage e act)) 0) _ _
-    (λ p. console-reports No-delivery tt tt tt counted e act) (λ p. tt)
+    if-holds (λ (d : rules.ConsoleActed ℕ Row). No-delivery (d .report)) (eqb (refusal (rules.console-rules numbering isMessage e act)) 0) _ _
+    (λ p. console-reports No-delivery tt tt tt numbering e act) (λ p. tt)
 
 console-shown : (byte x : ℕ) (m : Row) (l : Letter) → letter byte ≡ some l → (r : rules.Report Row) → No-delivery r → shown (bench.action l x 0 m) r ≡ called byte m (reportBack r) []
 console-shown byte x m l e rules.nothing h = rw e
@@ -177,7 +177,7 @@ pub record Kept (k : Link ℕ Row) : Type 0 where
   pub console : k .console-kept ≡ k .bench .console .numbers
   pub controller : k .controller-kept ≡ k .bench .controller .numbers
 
-aired-kept : (k : Link ℕ Row) (x : Asked Row) → Kept k → let o = aired counted isMessage (k .bench) x in Kept (radio.goes-on (o .after) (keeps x (o .after) k))
+aired-kept : (k : Link ℕ Row) (x : Asked Row) → Kept k → let o = aired numbering isMessage (k .bench) x in Kept (radio.goes-on (o .after) (keeps x (o .after) k))
 unfolding aired keeps
 aired-kept k (Asked.console act) h = record { console = refl; controller = h .controller }
 aired-kept k (Asked.controller act) h = record { console = h .console; controller = refl }
@@ -195,10 +195,10 @@ kept-fails (Asked.console act) b k h = record { console = refl; controller = h .
 kept-fails (Asked.controller act) b k h = record { console = h .console; controller = refl }
 kept-fails bench.no-end b k h = h
 
-pub happens-kept : (k : Link ℕ Row) (h : Happening Row) → Kept k → Kept (happens counted isMessage k h .after)
+pub happens-kept : (k : Link ℕ Row) (h : Happening Row) → Kept k → Kept (happens numbering isMessage k h .after)
 unfolding happens
 happens-kept k (radio.acts a) h = aired-kept k (radio.asked k a) h
-happens-kept k (radio.kept-and-cut a) h = kept-fails (radio.asked k a) (aired counted isMessage (k .bench) (radio.asked k a) .after) k h
+happens-kept k (radio.kept-and-cut a) h = kept-fails (radio.asked k a) (aired numbering isMessage (k .bench) (radio.asked k a) .after) k h
 happens-kept k (radio.cut a) h = fails-kept (radio.asked k a) k h
 
 -- ## Every event: it shows nothing and changes nothing, or it is what may happen to the rules' ends
@@ -206,14 +206,14 @@ happens-kept k (radio.cut a) h = fails-kept (radio.asked k a) k h
 abbrev pub Moved : Link ℕ Row → Event → Type 0
 Moved k e =
     ((shows (boxesOf k) e ≡ none) × (after (boxesOf k) e ≡ boxesOf k))
-    ⊎ ((h : Happening Row) × ((shown-of counted isMessage k h ≡ shows (boxesOf k) e) × (after (boxesOf k) e ≡ boxesOf (happens counted isMessage k h .after))))
+    ⊎ ((h : Happening Row) × ((shown-of numbering isMessage k h ≡ shows (boxesOf k) e) × (after (boxesOf k) e ≡ boxesOf (happens numbering isMessage k h .after))))
 
 module _ (k : Link ℕ Row) (kept : Kept k) (byte : ℕ) (m y : List ℕ) where
   -- what comes of a console's call, with any reach
   abbrev Console-moved : Reach → ConsoleAlone → Type 0
   Console-moved w d =
       ((consoleShows w byte m d ≡ none) × (consoleGoes w d (boxesOf k) ≡ boxesOf k))
-      ⊎ ((h : Happening Row) × ((shown-of counted isMessage k h ≡ consoleShows w byte m d) × (consoleGoes w d (boxesOf k) ≡ boxesOf (happens counted isMessage k h .after))))
+      ⊎ ((h : Happening Row) × ((shown-of numbering isMessage k h ≡ consoleShows w byte m d) × (consoleGoes w d (boxesOf k) ≡ boxesOf (happens numbering isMessage k h .after))))
 
   console-cut : (d : ConsoleAlone) → Console-moved cut d
   unfolding happens fails asks
@@ -228,35 +228,35 @@ module _ (k : Link ℕ Row) (kept : Kept k) (byte : ℕ) (m y : List ℕ) where
   console-unmoved cut n = console-cut (consoleRefused n (consoleBack (k .bench .console)) y)
 
   console-acted : (w : Reach) (l : Letter) → letter byte ≡ some l → (x : ℕ) (act : rules.ConsoleAct Row) → asks (k .bench) l x m ≡ Asked.console act
-      → Console-moved w (consoleTold (rules.console-step counted isMessage (k .bench .console) act) y)
+      → Console-moved w (consoleTold (rules.console-step numbering isMessage (k .bench .console) act) y)
   unfolding happens fails keeps aired
   console-acted through l e x act q =
-      let d = rules.console-step counted isMessage (k .bench .console) act in
+      let d = rules.console-step numbering isMessage (k .bench .console) act in
       inr (
         radio.acts (bench.action l x 0 m),
         (
-          ap (λ (z : Asked Row). shown (bench.action l x 0 m) (aired counted isMessage (k .bench) z .report)) q ∙ console-shown byte x m l e (d .report) (console-delivers-nothing (k .bench .console) act),
+          ap (λ (z : Asked Row). shown (bench.action l x 0 m) (aired numbering isMessage (k .bench) z .report)) q ∙ console-shown byte x m l e (d .report) (console-delivers-nothing (k .bench .console) act),
           (λ i. record { console = consoleBack (d .after); console-kept = console-used (d .after) i; controller = controllerBack (k .bench .controller); controller-kept = record { 0 = k .controller-kept }; toController = to-controller-leaves (d .sent) y (k .bench .toController) i; toConsole = map toConsoleBytes (k .bench .toConsole) })
-              ∙ ap (λ (z : Asked Row). boxesOf (radio.goes-on (aired counted isMessage (k .bench) z .after) (keeps z (aired counted isMessage (k .bench) z .after) k))) (sym q),
+              ∙ ap (λ (z : Asked Row). boxesOf (radio.goes-on (aired numbering isMessage (k .bench) z .after) (keeps z (aired numbering isMessage (k .bench) z .after) k))) (sym q),
         ),
       )
   console-acted kept-and-cut l e x act q =
-      let d = rules.console-step counted isMessage (k .bench .console) act in
+      let d = rules.console-step numbering isMessage (k .bench .console) act in
       inr (
         radio.kept-and-cut (bench.action l x 0 m),
         (
           ap (λ (z : Asked Row). radio.fall-of z) q,
           ap (λ (u : J). consoleGoes cut (consoleTold d y) (record { console = consoleBack (k .bench .console); console-kept = u; controller = controllerBack (k .bench .controller); controller-kept = record { 0 = k .controller-kept }; toController = map toControllerBytes (k .bench .toController); toConsole = map toConsoleBytes (k .bench .toConsole) })) (console-used (d .after))
-              ∙ ap (λ (z : Asked Row). boxesOf (fails z (keeps z (aired counted isMessage (k .bench) z .after) k))) (sym q),
+              ∙ ap (λ (z : Asked Row). boxesOf (fails z (keeps z (aired numbering isMessage (k .bench) z .after) k))) (sym q),
         ),
       )
-  console-acted cut l e x act q = console-cut (consoleTold (rules.console-step counted isMessage (k .bench .console) act) y)
+  console-acted cut l e x act q = console-cut (consoleTold (rules.console-step numbering isMessage (k .bench .console) act) y)
 
 module _ (k : Link ℕ Row) (kept : Kept k) (byte : ℕ) (y : List ℕ) where
   abbrev Controller-moved : Reach → ControllerAlone → Type 0
   Controller-moved w d =
       ((controllerShows w byte d ≡ none) × (controllerGoes w d (boxesOf k) ≡ boxesOf k))
-      ⊎ ((h : Happening Row) × ((shown-of counted isMessage k h ≡ controllerShows w byte d) × (controllerGoes w d (boxesOf k) ≡ boxesOf (happens counted isMessage k h .after))))
+      ⊎ ((h : Happening Row) × ((shown-of numbering isMessage k h ≡ controllerShows w byte d) × (controllerGoes w d (boxesOf k) ≡ boxesOf (happens numbering isMessage k h .after))))
 
   controller-cut : (d : ControllerAlone) → Controller-moved cut d
   unfolding happens fails asks
@@ -271,29 +271,29 @@ module _ (k : Link ℕ Row) (kept : Kept k) (byte : ℕ) (y : List ℕ) where
   controller-unmoved cut n = controller-cut (controllerRefused n (controllerBack (k .bench .controller)) y)
 
   controller-acted : (w : Reach) (l : Letter) → letter byte ≡ some l → (x : ℕ) (act : rules.ControllerAct Row) → asks (k .bench) l x [] ≡ Asked.controller act
-      → Controller-moved w (controllerTold (rules.controller-step counted (k .bench .controller) act) y)
+      → Controller-moved w (controllerTold (rules.controller-step numbering (k .bench .controller) act) y)
   unfolding happens fails keeps aired
   controller-acted through l e x act q =
-      let d = rules.controller-step counted (k .bench .controller) act in
+      let d = rules.controller-step numbering (k .bench .controller) act in
       inr (
         radio.acts (bench.action l x 0 []),
         (
-          ap (λ (z : Asked Row). shown (bench.action l x 0 []) (aired counted isMessage (k .bench) z .report)) q ∙ controller-shown byte x l e (d .report),
+          ap (λ (z : Asked Row). shown (bench.action l x 0 []) (aired numbering isMessage (k .bench) z .report)) q ∙ controller-shown byte x l e (d .report),
           (λ i. record { console = consoleBack (k .bench .console); console-kept = record { 0 = k .console-kept }; controller = controllerBack (d .after); controller-kept = controller-used (d .after) i; toController = map toControllerBytes (k .bench .toController); toConsole = to-console-leaves (d .sent) y (k .bench .toConsole) i })
-              ∙ ap (λ (z : Asked Row). boxesOf (radio.goes-on (aired counted isMessage (k .bench) z .after) (keeps z (aired counted isMessage (k .bench) z .after) k))) (sym q),
+              ∙ ap (λ (z : Asked Row). boxesOf (radio.goes-on (aired numbering isMessage (k .bench) z .after) (keeps z (aired numbering isMessage (k .bench) z .after) k))) (sym q),
         ),
       )
   controller-acted kept-and-cut l e x act q =
-      let d = rules.controller-step counted (k .bench .controller) act in
+      let d = rules.controller-step numbering (k .bench .controller) act in
       inr (
         radio.kept-and-cut (bench.action l x 0 []),
         (
           ap (λ (z : Asked Row). radio.fall-of z) q,
           ap (λ (u : I). controllerGoes cut (controllerTold d y) (record { console = consoleBack (k .bench .console); console-kept = record { 0 = k .console-kept }; controller = controllerBack (k .bench .controller); controller-kept = u; toController = map toControllerBytes (k .bench .toController); toConsole = map toConsoleBytes (k .bench .toConsole) })) (controller-used (d .after))
-              ∙ ap (λ (z : Asked Row). boxesOf (fails z (keeps z (aired counted isMessage (k .bench) z .after) k))) (sym q),
+              ∙ ap (λ (z : Asked Row). boxesOf (fails z (keeps z (aired numbering isMessage (k .bench) z .after) k))) (sym q),
         ),
       )
-  controller-acted cut l e x act q = controller-cut (controllerTold (rules.controller-step counted (k .bench .controller) act) y)
+  controller-acted cut l e x act q = controller-cut (controllerTold (rules.controller-step numbering (k .bench .controller) act) y)
 
 pub moved : (k : Link ℕ Row) → Ok k → Kept k → (e : Event) → Honest (boxesOf k) e → Moved k e
 moved k ok kept (at-console w byte m p y) h =
@@ -302,7 +302,7 @@ moved k ok kept (at-console w byte m p y) h =
     by : (d : ConsoleAlone) → ConsoleCall (k .bench) (consoleBack (k .bench .console)) (console-fine k ok .0) m p y byte d → Console-moved k kept byte m y w d
     by d (inl (n, r)) = subst (Console-moved k kept byte m y w) (sym r) (console-unmoved k kept byte m y w n)
     by d (inr (l, (e, (x, (act, (q, r)))))) =
-        subst (Console-moved k kept byte m y w) (sym (r ∙ ap (λ (c : rules.Console ℕ Row). consoleTold (rules.console-step counted isMessage c act) y) (console-fine k ok .1)))
+        subst (Console-moved k kept byte m y w) (sym (r ∙ ap (λ (c : rules.Console ℕ Row). consoleTold (rules.console-step numbering isMessage c act) y) (console-fine k ok .1)))
         (console-acted k kept byte m y w l e x act q)
 moved k ok kept (at-controller w byte p y) h =
     by _ (controller-call (k .bench) (controllerBack (k .bench .controller)) (controller-fine k ok .0) [] p y byte (λ s. controller-finds k ok p (h s)))
@@ -310,13 +310,13 @@ moved k ok kept (at-controller w byte p y) h =
     by : (d : ControllerAlone) → ControllerCall (k .bench) (controllerBack (k .bench .controller)) (controller-fine k ok .0) [] p y byte d → Controller-moved k kept byte y w d
     by d (inl (n, r)) = subst (Controller-moved k kept byte y w) (sym r) (controller-unmoved k kept byte y w n)
     by d (inr (l, (e, (x, (act, (q, r)))))) =
-        subst (Controller-moved k kept byte y w) (sym (r ∙ ap (λ (c : rules.Controller ℕ). controllerTold (rules.controller-step counted c act) y) (controller-fine k ok .1)))
+        subst (Controller-moved k kept byte y w) (sym (r ∙ ap (λ (c : rules.Controller ℕ). controllerTold (rules.controller-step numbering c act) y) (controller-fine k ok .1)))
         (controller-acted k kept byte y w l e x act q)
 
 -- ## All of them
 
 abbrev Onto : log.Log Row → Link ℕ Row → List Event → Type 0
-Onto past k es = (hs : List (Happening Row)) × (written (rows-shown counted isMessage k hs) past ≡ written (allShown (boxesOf k) es) past)
+Onto past k es = (hs : List (Happening Row)) × (written (rows-shown numbering isMessage k hs) past ≡ written (allShown (boxesOf k) es) past)
 
 onto : (past : log.Log Row) (k : Link ℕ Row) → Ok k → Kept k → (es : List Event) → AllHonest (boxesOf k) es → Onto past k es
 unfolding rows-shown allShown written
@@ -330,8 +330,8 @@ onto past k ok kept (e ∷ es) h = by (moved k ok kept e (h .0)) (λ p q x z v. 
         let n′ = sym n in
         (m .0, m .1 ∙ (λ i. written (allShown (s′ i) es) (write (n′ i) past)))
     by (inr (x, (n, s))) more =
-        let q = happens counted isMessage k x .after in
-        let m = more (write (shown-of counted isMessage k x) past) q (happens-ok counted isMessage counted-lawful k x ok) (happens-kept k x kept) (subst (λ (b : Boxes). AllHonest b es) s (h .1)) in
+        let q = happens numbering isMessage k x .after in
+        let m = more (write (shown-of numbering isMessage k x) past) q (happens-ok numbering isMessage numbering-lawful k x ok) (happens-kept k x kept) (subst (λ (b : Boxes). AllHonest b es) s (h .1)) in
         let s′ = sym s in
         (x ∷ m .0, m .1 ∙ (λ i. written (allShown (s′ i) es) (write (n i) past)))
 
@@ -345,20 +345,20 @@ module _ (j : J) (i : I) (p : j .0 < 2 ^ 32) (q : i .0 < 2 ^ 32) (es : List Even
   unfolding bench.fresh
   started =
       onto [] from
-      (start-ok counted isMessage (j .0) (i .0) (le-leb (j .0) largest (omega (arith, p))) (le-leb (i .0) largest (omega (arith, q))))
+      (start-ok numbering isMessage (j .0) (i .0) (le-leb (j .0) largest (omega (arith, p))) (le-leb (i .0) largest (omega (arith, q))))
       (record { console = refl; controller = refl }) es honest
 
   pub boxes-right : BoxesRight j i es
   unfolding bench.fresh
   boxes-right =
       let hs = started .0 in
-      let r = radio-right counted isMessage counted-lawful (j .0) (i .0) hs in
+      let r = radio-right numbering isMessage numbering-lawful (j .0) (i .0) hs in
       record {
         happenings = hs;
         right = r .right;
-        own = sym (map-written unnumbered (rows-left counted isMessage [] (radio.start (j .0) (i .0)) hs) []) ∙ ap (λ (l : List (Option (log.Event Row))). written l []) (r .own) ∙ started .1;
+        own = sym (map-written unnumbered (rows-left numbering isMessage [] (radio.start (j .0) (i .0)) hs) []) ∙ ap (λ (l : List (Option (log.Event Row))). written l []) (r .own) ∙ started .1;
       }
 
   -- in plain words
-  pub boxes-plain : Plain (radio-log counted isMessage (j .0) (i .0) (boxes-right .happenings))
-  boxes-plain = right-plain (radio-log counted isMessage (j .0) (i .0) (boxes-right .happenings)) (boxes-right .right)
+  pub boxes-plain : Plain (radio-log numbering isMessage (j .0) (i .0) (boxes-right .happenings))
+  boxes-plain = right-plain (radio-log numbering isMessage (j .0) (i .0) (boxes-right .happenings)) (boxes-right .right)

@@ -23,7 +23,7 @@ use Rattle.wire.specs.declared.LastUsed.the-variants as last-used
 use Rattle.wire.specs.declared.ReadRecord.{ReadRecord}
 use Rattle.wire.specs.declared.ReadRecord.the-variants as read-record
 use Rattle.wire.proofs.RecordTrips.{record-read-back}
-use Rattle.protocol.specs.Supply.{counted, largest}
+use Rattle.protocol.specs.Supply.{numbering, largest}
 use Rattle.protocol.specs.Bench as bench
 use Rattle.protocol.specs.Ends as rules
 use Rattle.protocol.specs.Log as log
@@ -32,7 +32,7 @@ use Rattle.protocol.specs.Demand3.{written}
 use Rattle.protocol.specs.Radio as radio
 use Rattle.protocol.specs.Radio.{Link, happens, radio-log}
 use Rattle.protocol.specs.WellFormed.{Console-ok, Controller-ok}
-use Rattle.protocol.proofs.Supply.{counted-lawful}
+use Rattle.protocol.proofs.Supply.{numbering-lawful}
 use Rattle.protocol.proofs.Plain.{right-plain}
 use Rattle.protocol.proofs.RadioWellFormed.{happens-ok, start-ok}
 use Rattle.ends.specs.Fields.{consoleOk, downedConsole, controllerOk, downedController}
@@ -319,7 +319,7 @@ module _ (k : Link ℕ Row) (ok : Ok k) where
       by : Moved k e → Next e
       by (inl (n, s)) = record { link = k; fine = ok; kept = kept; is = s }
       by (inr (x, (n, s))) =
-          record { link = happens counted isMessage k x .after; fine = happens-ok counted isMessage counted-lawful k x ok; kept = happens-kept k x kept; is = s }
+          record { link = happens numbering isMessage k x .after; fine = happens-ok numbering isMessage numbering-lawful k x ok; kept = happens-kept k x kept; is = s }
 
 -- ## Every event
 
@@ -544,7 +544,7 @@ module _ (j : J) (i : I) (p : j .0 < 2 ^ 32) (q : i .0 < 2 ^ 32) (es : List Even
   unfolding bench.fresh
   begun =
       all-same (radio.start (j .0) (i .0))
-      (start-ok counted isMessage (j .0) (i .0) (le-leb (j .0) largest (omega (arith, p))) (le-leb (i .0) largest (omega (arith, q))))
+      (start-ok numbering isMessage (j .0) (i .0) (le-leb (j .0) largest (omega (arith, p))) (le-leb (i .0) largest (omega (arith, q))))
       (record { console = refl; controller = refl }) es honest
 
   pub boxes-for-c-right : BoxesForCRight j i es
@@ -554,5 +554,5 @@ module _ (j : J) (i : I) (p : j .0 < 2 ^ 32) (q : i .0 < 2 ^ 32) (es : List Even
       record { happenings = r .happenings; right = r .right; own = r .own ∙ ap (λ (l : List (Option (log.Event Row))). written l []) (sym (begun .1)) }
 
   -- in plain words
-  pub boxes-for-c-plain : Plain (radio-log counted isMessage (j .0) (i .0) (boxes-for-c-right .happenings))
-  boxes-for-c-plain = right-plain (radio-log counted isMessage (j .0) (i .0) (boxes-for-c-right .happenings)) (boxes-for-c-right .right)
+  pub boxes-for-c-plain : Plain (radio-log numbering isMessage (j .0) (i .0) (boxes-for-c-right .happenings))
+  boxes-for-c-plain = right-plain (radio-log numbering isMessage (j .0) (i .0) (boxes-for-c-right .happenings)) (boxes-for-c-right .right)

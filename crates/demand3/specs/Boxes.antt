@@ -9,7 +9,7 @@ use Rattle.ground.specs.Cell.{isMessage}
 use Rattle.wire.specs.Packet.{packetRead}
 use Rattle.wire.specs.declared.I.{I}
 use Rattle.wire.specs.declared.J.{J}
-use Rattle.protocol.specs.Supply.{counted}
+use Rattle.protocol.specs.Supply.{numbering}
 use Rattle.protocol.specs.Letters.{letter, S-take, R-take}
 use Rattle.protocol.specs.Ends.{absent}
 use Rattle.protocol.specs.Lists.{In}
@@ -172,5 +172,5 @@ AllHonest b (e ∷ es) = Honest b e × AllHonest (after b e) es
 
 pub record BoxesRight (j : J) (i : I) (es : List Event) : Type 0 where
   pub happenings : List (Happening (List ℕ))
-  pub right : Right (radio-log counted isMessage (j .0) (i .0) happenings)
-  pub own : map unnumbered (radio-log counted isMessage (j .0) (i .0) happenings) ≡ written (allShown (start j i) es) []
+  pub right : Right (radio-log numbering isMessage (j .0) (i .0) happenings)
+  pub own : map unnumbered (radio-log numbering isMessage (j .0) (i .0) happenings) ≡ written (allShown (start j i) es) []

@@ -13,7 +13,7 @@ use Rattle.wire.specs.Record.{recordBytes}
 use Rattle.wire.specs.declared.I.{I}
 use Rattle.wire.specs.declared.J.{J}
 use Rattle.wire.specs.declared.LastUsed.the-variants as last-used
-use Rattle.protocol.specs.Supply.{counted}
+use Rattle.protocol.specs.Supply.{numbering}
 use Rattle.protocol.specs.Letters.{letter, S-take, R-take}
 use Rattle.protocol.specs.Lists.{In}
 use Rattle.protocol.specs.Log as log
@@ -186,5 +186,5 @@ AllHonest b (e ∷ es) = Honest b e × AllHonest (after b e) es
 
 pub record BoxesForCRight (j : J) (i : I) (es : List Event) : Type 0 where
   pub happenings : List (Happening (List ℕ))
-  pub right : Right (radio-log counted isMessage (j .0) (i .0) happenings)
-  pub own : map unnumbered (radio-log counted isMessage (j .0) (i .0) happenings) ≡ written (allShown (start j i) es) []
+  pub right : Right (radio-log numbering isMessage (j .0) (i .0) happenings)
+  pub own : map unnumbered (radio-log numbering isMessage (j .0) (i .0) happenings) ≡ written (allShown (start j i) es) []

@@ -55,7 +55,7 @@ use Rattle.boxes.proofs.ConsoleLeft.{console-refusal-number}
 use Rattle.boxes.proofs.ControllerLeft.{controller-refusal-number}
 use Rattle.boxes.proofs.ConsoleTrips as console-trips
 use Rattle.boxes.proofs.ControllerTrips as controller-trips
-use Rattle.boxes.proofs.Told.{Refusal}
+use Rattle.boxes.proofs.Told.{Refusal, keeps-told, sends-told}
 use Rattle.demand3.specs.BenchForC.{byteSays}
 use Rattle.demand3.specs.Boxes as alone
 use Rattle.demand3.specs.Boxes.{Reach, through, kept-and-cut, cut, leaves, called}
@@ -88,43 +88,20 @@ module _ (n : ℕ) (h : Refusal n) where
   unfolding reportTold
   refusal-says = ap byteSays bare ∙ byte-refuses
 
--- of any other report, with its marks
+-- of any other report, whatever its marks
 by-marks : (P : Bool → Bool → Type 0) → P true true → P true false → P false true → P false false → (sent keep : Bool) → P sent keep
 by-marks P a b c d true true = a
 by-marks P a b c d true false = b
 by-marks P a b c d false true = c
 by-marks P a b c d false false = d
 
-pub record Says (r : Report) (sent keep : Bool) (t : ℕ) : Type 0 where
-  pub keeps : keepTold t ≡ keep
-  pub sends : sentTold t ≡ sent
-  pub says : reportTold t ≡ r
-
-abbrev Says-told : Report → Bool → Bool → Type 0
-Says-told r sent keep = Says r sent keep (told r sent keep)
-
-nothing-says : (sent keep : Bool) → Says-told report.Nothing sent keep
+says-told : (r : Report) (sent keep : Bool) → isRefusal r ≡ false → reportTold (told r sent keep) ≡ r
 unfolding reportTold byteSays marks if_then_else_
-nothing-says = by-marks (Says-told report.Nothing) (record { keeps = refl; sends = refl; says = refl }) (record { keeps = refl; sends = refl; says = refl }) (record { keeps = refl; sends = refl; says = refl }) (record { keeps = refl; sends = refl; says = refl })
-
-delivered-says : (sent keep : Bool) → Says-told report.Delivered sent keep
-unfolding reportTold byteSays marks if_then_else_
-delivered-says = by-marks (Says-told report.Delivered) (record { keeps = refl; sends = refl; says = refl }) (record { keeps = refl; sends = refl; says = refl }) (record { keeps = refl; sends = refl; says = refl }) (record { keeps = refl; sends = refl; says = refl })
-
-ok-says : (sent keep : Bool) → Says-told report.Ok sent keep
-unfolding reportTold byteSays marks if_then_else_
-ok-says = by-marks (Says-told report.Ok) (record { keeps = refl; sends = refl; says = refl }) (record { keeps = refl; sends = refl; says = refl }) (record { keeps = refl; sends = refl; says = refl }) (record { keeps = refl; sends = refl; says = refl })
-
-lost-says : (sent keep : Bool) → Says-told report.Lost sent keep
-unfolding reportTold byteSays marks if_then_else_
-lost-says = by-marks (Says-told report.Lost) (record { keeps = refl; sends = refl; says = refl }) (record { keeps = refl; sends = refl; says = refl }) (record { keeps = refl; sends = refl; says = refl }) (record { keeps = refl; sends = refl; says = refl })
-
-told-says : (r : Report) (sent keep : Bool) → isRefusal r ≡ false → Says-told r sent keep
-told-says report.Nothing sent keep e = nothing-says sent keep
-told-says report.Delivered sent keep e = delivered-says sent keep
-told-says report.Ok sent keep e = ok-says sent keep
-told-says report.Lost sent keep e = lost-says sent keep
-told-says (report.Refused n) sent keep e = absurd (true≢false e)
+says-told report.Nothing sent keep e = by-marks (λ s k. reportTold (told report.Nothing s k) ≡ report.Nothing) refl refl refl refl sent keep
+says-told report.Delivered sent keep e = by-marks (λ s k. reportTold (told report.Delivered s k) ≡ report.Delivered) refl refl refl refl sent keep
+says-told report.Ok sent keep e = by-marks (λ s k. reportTold (told report.Ok s k) ≡ report.Ok) refl refl refl refl sent keep
+says-told report.Lost sent keep e = by-marks (λ s k. reportTold (told report.Lost s k) ≡ report.Lost) refl refl refl refl sent keep
+says-told (report.Refused n) sent keep e = absurd (true≢false e)
 
 -- ## Records
 
@@ -226,15 +203,15 @@ module _ (c : Console) (typed : console-trips.Typed c) where
   console-carried-told : (d : ConsoleAlone) → isRefusal (d .outcome .report) ≡ false → consoleOk (d .outcome .console) ≡ true → console-trips.Typed (d .outcome .console) → Console-told d
   unfolding consoleKeeps state.written if_then_else_
   console-carried-told d e ok left =
-      let s = told-says (d .outcome .report) (d .outcome .sent) (changed (c .used .0) (d .outcome .console .used .0)) e in
+      let keep = changed (c .used .0) (d .outcome .console .used .0) in
       let back = console-trips.console-read-back (d .outcome .console) left in
       record {
-        sends = s .sends;
-        says = s .says;
+        sends = sends-told (d .outcome .report) (d .outcome .sent) keep e;
+        says = says-told (d .outcome .report) (d .outcome .sent) keep e;
         leaves = rw (e, eq-eqb (length (consoleBytes c)) 30 console-long);
         keeps =
             rw (e, eq-eqb (length (consoleBytes c)) 30 console-long, back, ok)
-            (kept-record (λ n. last-used.Console (record { 0 = n })) (c .used .0) (d .outcome .console .used .0) _ (s .keeps));
+            (kept-record (λ n. last-used.Console (record { 0 = n })) (c .used .0) (d .outcome .console .used .0) _ (keeps-told (d .outcome .report) (d .outcome .sent) keep e));
       }
 
 -- ## A call of the controller
@@ -280,15 +257,15 @@ module _ (c : Controller) (typed : controller-trips.Typed c) where
   controller-carried-told : (lent : List ℕ) (d : ControllerAlone) → isRefusal (d .outcome .report) ≡ false → controllerOk (d .outcome .controller) ≡ true → controller-trips.Typed (d .outcome .controller) → Controller-told lent d
   unfolding controllerKeeps state.written if_then_else_
   controller-carried-told lent d e ok left =
-      let s = told-says (d .outcome .report) (d .outcome .sent) (changed (c .used .0) (d .outcome .controller .used .0)) e in
+      let keep = changed (c .used .0) (d .outcome .controller .used .0) in
       let back = controller-trips.controller-read-back (d .outcome .controller) left in
       record {
-        sends = s .sends;
-        says = s .says;
+        sends = sends-told (d .outcome .report) (d .outcome .sent) keep e;
+        says = says-told (d .outcome .report) (d .outcome .sent) keep e;
         leaves = rw (e, eq-eqb (length (controllerBytes c)) 17 controller-long);
         keeps =
             rw (e, eq-eqb (length (controllerBytes c)) 17 controller-long, back, ok)
-            (kept-record (λ n. last-used.Controller (record { 0 = n })) (c .used .0) (d .outcome .controller .used .0) _ (s .keeps));
+            (kept-record (λ n. last-used.Controller (record { 0 = n })) (c .used .0) (d .outcome .controller .used .0) _ (keeps-told (d .outcome .report) (d .outcome .sent) keep e));
       }
 
 -- ## Where the rules' link stands

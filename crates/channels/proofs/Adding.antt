@@ -12,9 +12,9 @@ use Rattle.ground.specs.Choice.{if_then_else_}
 use Rattle.ground.proofs.Tests.{by-test}
 use Rattle.wire.specs.declared.Packet.{Packet}
 use Rattle.wire.specs.Packet.{fits, packetBytes, packetWritten}
-use Rattle.wire.proofs.Fitting.{packet-long}
+use Rattle.wire.proofs.PacketsFit.{packet-long}
 use Rattle.wire.proofs.Writing.{written-fits, out-kept, packet-written}
-use Rattle.tables.proofs.Parts.{part, replaced, part-length, put-back, back-at}
+use Rattle.tables.proofs.LentParts.{part, replaced, part-length, put-back, back-at}
 use Rattle.tables.proofs.Places.{copies-length, copies-suc}
 use Rattle.channels.specs.Table.{laid, withCopies, added}
 

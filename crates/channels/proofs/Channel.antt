@@ -20,7 +20,7 @@ use Rattle.wire.specs.declared.Direction.{Direction}
 use Rattle.wire.specs.declared.Packet.{Packet}
 use Rattle.wire.specs.declared.ReadPacket.{ReadPacket}
 use Rattle.wire.specs.Packet.{directionOf, fits, packetBytes, packetRead, accepted}
-use Rattle.wire.proofs.Fitting.{Typed, packet-long}
+use Rattle.wire.proofs.PacketsFit.{Typed, packet-long}
 use Rattle.wire.proofs.Trips.{read-back}
 use Rattle.tables.specs.Table.{isTable, takenOut}
 use Rattle.tables.proofs.Places.{Placed, zeros-left, is-long, is-few, laid-append, laid-length, table-none, table-length, above, bytes-at-is, taken-out-is, holds-length, holds-table}

@@ -20,12 +20,12 @@ use Rattle.wire.specs.declared.ReadHead.{ReadHead}
 use Rattle.wire.specs.declared.ReadHead.the-variants.{Refused, Is}
 use Rattle.wire.specs.declared.ReadPacket.{ReadPacket}
 use Rattle.wire.specs.Packet.{directionOf, fits, packetBytes, packetRead, accepted}
-use Rattle.wire.proofs.Fitting.{Typed, fits-numbers, fits-message, blank-is, needI-fits, offer-fits, data-fits, ok-fits, lost-fits, done-fits, first-above, second-above, to-controller, to-console}
+use Rattle.wire.proofs.PacketsFit.{Typed, fits-numbers, fits-message, blank-is, needI-fits, offer-fits, data-fits, ok-fits, lost-fits, done-fits, first-above, second-above, to-controller, to-console}
 use Rattle.wire.proofs.Outcomes.{accepted-is}
 use Rattle.wire.proofs.Trips.{read-back, Taken, taken}
-use Rattle.protocol.specs.Ends.{ToController, needI, order, done, ToConsole, offer, ok, lost}
-use Rattle.protocol.specs.Supply.{numbering, largest}
-use Rattle.protocol.specs.WellFormed.{To-controller-ok, To-console-ok, Number}
+use Rattle.rules.specs.Ends.{ToController, needI, order, done, ToConsole, offer, ok, lost}
+use Rattle.rules.specs.Supply.{numbering, largest}
+use Rattle.rules.specs.WellFormed.{To-controller-ok, To-console-ok, Number}
 use Rattle.channels.specs.Packets.{toControllerBytes, asToController, toControllerRead, toConsoleBytes, asToConsole, toConsoleRead}
 use Rattle.ends.specs.Packets.{toControllerPacket, toConsolePacket}
 use Rattle.channels.specs.Table.{sameWay, goes}

@@ -3,9 +3,9 @@ use Prim.Native.Nat.{ℕ}
 use mathlib.Core.List.{List}
 use Rattle.wire.specs.declared.ReadHead.{ReadHead}
 use Rattle.wire.specs.Packet.{packetBytes, packetRead}
-use Rattle.protocol.specs.Ends.{ToController, needI, ToConsole, ok}
-use Rattle.protocol.specs.Relabel.{in-packet}
-use Rattle.ends.specs.Means.{toController, toConsole}
+use Rattle.rules.specs.Ends.{ToController, needI, ToConsole, ok}
+use Rattle.rules.specs.Relabel.{in-packet}
+use Rattle.ends.specs.AsRules.{toController, toConsole}
 use Rattle.ends.specs.Packets.{toControllerPacket, toConsolePacket, readForController, readForConsole}
 use Rattle.ends.specs.declared.ForController.{ForController}
 use Rattle.ends.specs.declared.ForController.the-variants as for-controller

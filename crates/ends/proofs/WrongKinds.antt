@@ -15,10 +15,10 @@ use Rattle.ends.specs.declared.ForController.{ForController}
 use Rattle.ends.specs.declared.ForController.the-variants as for-controller
 use Rattle.ends.specs.declared.ForConsole.{ForConsole}
 use Rattle.ends.specs.declared.ForConsole.the-variants as for-console
-use Rattle.ends.proofs.beside.for_controller.Kinds as for-controller-kinds
-use Rattle.ends.proofs.beside.for_controller.Reads as for-controller-reads
-use Rattle.ends.proofs.beside.for_console.Kinds as for-console-kinds
-use Rattle.ends.proofs.beside.for_console.Reads as for-console-reads
+use Rattle.ends.proofs.packets.for_controller.Kinds as for-controller-kinds
+use Rattle.ends.proofs.packets.for_controller.Reads as for-controller-reads
+use Rattle.ends.proofs.packets.for_console.Kinds as for-console-kinds
+use Rattle.ends.proofs.packets.for_console.Reads as for-console-reads
 
 -- ## For the controller
 

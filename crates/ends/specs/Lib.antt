@@ -1,6 +1,2 @@
-pub mod Console
-pub mod Controller
-pub mod Fields
-pub mod InRules
-pub mod Means
+pub mod AsRules
 pub mod Packets

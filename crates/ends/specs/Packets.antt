@@ -10,9 +10,9 @@ use Rattle.wire.specs.declared.Head.the-variants.{NeedI, Offer, Data, Ok, Lost,
 use Rattle.wire.specs.declared.ReadHead.{ReadHead}
 use Rattle.wire.specs.declared.ReadHead.the-variants.{Refused, Is}
 use Rattle.wire.specs.declared.Packet.{Packet}
-use Rattle.protocol.specs.Ends.{ToController, needI, order, done, ToConsole, offer, ok, lost}
-use Rattle.protocol.specs.Relabel.{in-packet}
-use Rattle.ends.specs.Means.{forController, forConsole}
+use Rattle.rules.specs.Ends.{ToController, needI, order, done, ToConsole, offer, ok, lost}
+use Rattle.rules.specs.Relabel.{in-packet}
+use Rattle.ends.specs.AsRules.{forController, forConsole}
 use Rattle.ends.specs.declared.ToController.the-variants as up
 use Rattle.ends.specs.declared.ToConsole.the-variants as down
 use Rattle.ends.specs.declared.ForController.{ForController}

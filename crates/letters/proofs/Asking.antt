@@ -2,8 +2,8 @@
 use mathlib.Core.Path.{_≡_, refl, sym, ap, _∙_}
 use mathlib.Core.Option.{Option, none, some}
 use Rattle.ground.proofs.Promise.{clash}
-use Rattle.protocol.specs.Letters as rules
-use Rattle.letters.specs.Lines.{asksOf, asksMeans, lineOf, foundOf}
+use Rattle.rules.specs.Letters as rules
+use Rattle.letters.specs.Lines.{asksOf, asksMeans, lineOf, foundOf, letterOf, Lined}
 use Rattle.letters.specs.declared.Line.{Line}
 use Rattle.letters.specs.declared.Found.{Found}
 use Rattle.letters.specs.declared.Found.the-variants as found
@@ -35,3 +35,29 @@ line-found {line = line} (some l) e g =
     let p : found.Line (lineOf l) ≡ found.Line line = sym e ∙ g in
     let q : lineOf l ≡ line = cc in
     (l, refl, sym (asks-back (rules.line l .asks)) ∙ ap (λ (x : Line). asksMeans (x .asks)) q)
+
+-- ## A line that was found is one of the table
+
+letter-again : (l : rules.Letter) → letterOf (lineOf l) ≡ l
+unfolding lineOf rules.line
+letter-again rules.P-put = refl
+letter-again rules.Q-need = refl
+letter-again rules.D-data = refl
+letter-again rules.S-take = refl
+letter-again rules.C-down = refl
+letter-again rules.V-back = refl
+letter-again rules.O-offer = refl
+letter-again rules.K-ok = refl
+letter-again rules.R-take = refl
+letter-again rules.X-down = refl
+letter-again rules.Y-back = refl
+letter-again rules.L-lose = refl
+letter-again rules.M-lose = refl
+
+pub found-lined : {line : Line} (o : Option rules.Letter) → foundOf o ≡ found.Line line → (o ≡ some (letterOf line)) × Lined line
+unfolding Lined
+found-lined {line} none e = let q : found.Nothing ≡ found.Line line = e in absurd (clash cc)
+found-lined {line} (some l) e =
+    let h : lineOf l ≡ line = cc in
+    let k : l ≡ letterOf line = sym (letter-again l) ∙ ap letterOf h in
+    (ap some k, sym h ∙ ap lineOf k)

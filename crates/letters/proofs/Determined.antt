@@ -4,5 +4,5 @@ use Rattle.ground.proofs.Promise.{Determined}
 use Rattle.letters.proofs.find.Kinds as find-kinds
 use Rattle.letters.proofs.find.Reads as find
 
-find-determined : Determined find-kinds.ps find-kinds.r find.Post
+pub find-determined : Determined find-kinds.ps find-kinds.r find.Post
 find-determined κs a x y s t p q = p .0 ∙ sym (q .0)

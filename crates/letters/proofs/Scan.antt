@@ -8,12 +8,12 @@ use native.Mathlib.Nat.{le-of-suc-le-suc, not-suc-le-zero}
 use borrow.Author.Tests.{ne-eqb}
 use lib.ListN.{length, getD}
 use Rattle.ground.specs.Choice.{if_then_else_}
-use Rattle.protocol.specs.Bench.{at}
-use Rattle.protocol.specs.Letters.{Letter, line, letters, among, letter}
+use Rattle.rules.specs.Bench.{at}
+use Rattle.rules.specs.Letters.{Letter, line, letters, among, letter}
 use Rattle.letters.specs.Lines.{lineOf, foundOf, foundRefusal, letterRefusal, foundAt}
-use Rattle.letters.specs.declared.Letter.the-variants.{P}
 use Rattle.letters.specs.declared.ConsoleAsk.the-variants as console
 use Rattle.letters.specs.declared.Asks.the-variants as asked
+use Rattle.letters.specs.declared.Takes.the-variants as takes
 use Rattle.letters.specs.declared.Line.{Line}
 use Rattle.letters.specs.declared.Found.{Found}
 use Rattle.letters.specs.declared.Found.the-variants as found
@@ -27,7 +27,7 @@ line-of (l ∷ ls) (suc k) d h = line-of ls k d (le-of-suc-le-suc h)
 
 -- what an array of lines has past its end
 abbrev pub no-line : Line
-no-line = record { byte = 0; letter = P; asks = asked.Console console.Put; place = false; copies = false; message = false }
+no-line = record { byte = 0; asks = asked.Console console.Put; takes = takes.Nothing; place = false; copies = false; message = false }
 
 pub at-line : (k : ℕ) → k < 13 → found.Line (getD (map lineOf letters) k no-line) ≡ foundAt k
 unfolding letters foundAt

@@ -4,7 +4,7 @@ use mathlib.Core.Path.{_≡_, sym, ap, _∙_}
 use native.Mathlib.Omega.{arith}
 use Rattle.ground.specs.Choice.{if_then_else_}
 use Rattle.ground.proofs.Promise.{RulesOut}
-use Rattle.protocol.specs.Letters.{Letter, line, letters, among, letter}
+use Rattle.rules.specs.Letters.{Letter, line, letters, among, letter}
 use Rattle.letters.specs.Lines.{lineOf, foundOf}
 use Rattle.letters.specs.declared.Line.{Line}
 use Rattle.letters.specs.declared.Found.the-variants as found

@@ -1,49 +1,20 @@
 -- What the rules' letters and lines are in the code. Assumes nothing.
 use Prim.Native.Nat.{ℕ}
+use mathlib.Core.Path.{_≡_}
 use mathlib.Core.Option.{Option, none, some}
-use Rattle.protocol.specs.Bench.{at}
-use Rattle.protocol.specs.Letters as rules
-use Rattle.letters.specs.declared.Letter.{Letter}
-use Rattle.letters.specs.declared.Letter.the-variants as code
+use Rattle.rules.specs.Bench.{at}
+use Rattle.rules.specs.Letters as rules
 use Rattle.letters.specs.declared.ConsoleAsk.{ConsoleAsk}
 use Rattle.letters.specs.declared.ConsoleAsk.the-variants as console
 use Rattle.letters.specs.declared.ControllerAsk.{ControllerAsk}
 use Rattle.letters.specs.declared.ControllerAsk.the-variants as controller
 use Rattle.letters.specs.declared.Asks.{Asks}
 use Rattle.letters.specs.declared.Asks.the-variants as asked
+use Rattle.letters.specs.declared.Takes.{Takes}
+use Rattle.letters.specs.declared.Takes.the-variants as takes
 use Rattle.letters.specs.declared.Line.{Line}
 use Rattle.letters.specs.declared.Found.{Found}
 use Rattle.letters.specs.declared.Found.the-variants as found
-
-abbrev pub letterOf : rules.Letter → Letter
-letterOf rules.P-put = code.P
-letterOf rules.Q-need = code.Q
-letterOf rules.D-data = code.D
-letterOf rules.S-take = code.S
-letterOf rules.C-down = code.C
-letterOf rules.V-back = code.V
-letterOf rules.O-offer = code.O
-letterOf rules.K-ok = code.K
-letterOf rules.R-take = code.R
-letterOf rules.X-down = code.X
-letterOf rules.Y-back = code.Y
-letterOf rules.L-lose = code.L
-letterOf rules.M-lose = code.M
-
-abbrev pub letterMeans : Letter → rules.Letter
-letterMeans code.P = rules.P-put
-letterMeans code.Q = rules.Q-need
-letterMeans code.D = rules.D-data
-letterMeans code.S = rules.S-take
-letterMeans code.C = rules.C-down
-letterMeans code.V = rules.V-back
-letterMeans code.O = rules.O-offer
-letterMeans code.K = rules.K-ok
-letterMeans code.R = rules.R-take
-letterMeans code.X = rules.X-down
-letterMeans code.Y = rules.Y-back
-letterMeans code.L = rules.L-lose
-letterMeans code.M = rules.M-lose
 
 -- ## What is asked, in the code and back
 
@@ -87,14 +58,19 @@ asksMeans (asked.Console a) = rules.the-console (consoleAskMeans a)
 asksMeans (asked.Controller a) = rules.the-controller (controllerAskMeans a)
 asksMeans asked.NoEnd = rules.neither-end
 
+abbrev pub takesOf : rules.Taken → Takes
+takesOf rules.from-neither = takes.Nothing
+takesOf rules.from-toController = takes.ToController
+takesOf rules.from-toConsole = takes.ToConsole
+
 -- ## The line of a letter
 
 unfoldable pub lineOf : rules.Letter → Line
 lineOf l =
     record {
       byte = rules.line l .byte;
-      letter = letterOf l;
       asks = asksOf (rules.line l .asks);
+      takes = takesOf (rules.line l .takes);
       place = rules.line l .place;
       copies = rules.line l .copies;
       message = rules.line l .message;
@@ -117,3 +93,31 @@ foundRefusal (found.Line l) = 0
 -- the line at a place of the table
 unfoldable pub foundAt : ℕ → Found
 foundAt k = foundOf (at rules.letters k)
+
+-- ## The letter of a line, by what it asks and takes
+
+abbrev lostFrom : Takes → rules.Letter
+lostFrom takes.Nothing = rules.L-lose
+lostFrom takes.ToController = rules.L-lose
+lostFrom takes.ToConsole = rules.M-lose
+
+abbrev asking : Asks → Takes → rules.Letter
+asking (asked.Console console.Put) t = rules.P-put
+asking (asked.Console console.SendNeedI) t = rules.Q-need
+asking (asked.Console console.SendData) t = rules.D-data
+asking (asked.Console console.Take) t = rules.S-take
+asking (asked.Console console.GoDown) t = rules.C-down
+asking (asked.Console console.ComeBack) t = rules.V-back
+asking (asked.Controller controller.SendOffer) t = rules.O-offer
+asking (asked.Controller controller.SendOk) t = rules.K-ok
+asking (asked.Controller controller.Take) t = rules.R-take
+asking (asked.Controller controller.GoDown) t = rules.X-down
+asking (asked.Controller controller.ComeBack) t = rules.Y-back
+asking asked.NoEnd t = lostFrom t
+
+abbrev pub letterOf : Line → rules.Letter
+letterOf l = asking (l .asks) (l .takes)
+
+-- a line of the table
+unfoldable pub Lined : Line → Type 0
+Lined l = l ≡ lineOf (letterOf l)

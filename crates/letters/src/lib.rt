@@ -1,24 +1,8 @@
 // The thirteen letters, whom each asks what, and the fields that it uses, as document 01's table has them.
 ghost use Prim.Native.Nat.{_<_};
 ghost use mathlib.Core.Path.{_≡_};
-ghost use Rattle.protocol.specs.Letters.{letter};
+ghost use Rattle.rules.specs.Letters.{letter};
 ghost use Rattle.letters.specs.Lines.{foundOf, foundRefusal, letterRefusal, foundAt};
-
-pub enum Letter {
-    P,
-    Q,
-    D,
-    S,
-    C,
-    V,
-    O,
-    K,
-    R,
-    X,
-    Y,
-    L,
-    M,
-}
 
 // What the console, or the controller, can be asked to do.
 pub enum ConsoleAsk {
@@ -45,11 +29,18 @@ pub enum Asks {
     NoEnd,
 }
 
-// A letter, its byte, whom it asks what, and whether it uses the place, the copies and the message.
+// The channel that it takes a packet out of: the one to the controller, or to the console.
+pub enum Takes {
+    Nothing,
+    ToController,
+    ToConsole,
+}
+
+// A letter's byte, whom it asks what, what it takes, and whether it uses the place, the copies and the message.
 pub struct Line {
     pub byte: u8,
-    pub letter: Letter,
     pub asks: Asks,
+    pub takes: Takes,
     pub place: bool,
     pub copies: bool,
     pub message: bool,
@@ -63,104 +54,104 @@ pub enum Found {
 const LINES: [Line; 13] = [
     Line {
         byte: b'P',
-        letter: Letter::P,
         asks: Asks::Console(ConsoleAsk::Put),
+        takes: Takes::Nothing,
         place: false,
         copies: false,
         message: true,
     },
     Line {
         byte: b'Q',
-        letter: Letter::Q,
         asks: Asks::Console(ConsoleAsk::SendNeedI),
+        takes: Takes::Nothing,
         place: false,
         copies: true,
         message: false,
     },
     Line {
         byte: b'D',
-        letter: Letter::D,
         asks: Asks::Console(ConsoleAsk::SendData),
+        takes: Takes::Nothing,
         place: false,
         copies: true,
         message: false,
     },
     Line {
         byte: b'S',
-        letter: Letter::S,
         asks: Asks::Console(ConsoleAsk::Take),
+        takes: Takes::ToConsole,
         place: true,
         copies: true,
         message: false,
     },
     Line {
         byte: b'C',
-        letter: Letter::C,
         asks: Asks::Console(ConsoleAsk::GoDown),
+        takes: Takes::Nothing,
         place: false,
         copies: false,
         message: false,
     },
     Line {
         byte: b'V',
-        letter: Letter::V,
         asks: Asks::Console(ConsoleAsk::ComeBack),
+        takes: Takes::Nothing,
         place: false,
         copies: false,
         message: false,
     },
     Line {
         byte: b'O',
-        letter: Letter::O,
         asks: Asks::Controller(ControllerAsk::SendOffer),
+        takes: Takes::Nothing,
         place: false,
         copies: true,
         message: false,
     },
     Line {
         byte: b'K',
-        letter: Letter::K,
         asks: Asks::Controller(ControllerAsk::SendOk),
+        takes: Takes::Nothing,
         place: false,
         copies: true,
         message: false,
     },
     Line {
         byte: b'R',
-        letter: Letter::R,
         asks: Asks::Controller(ControllerAsk::Take),
+        takes: Takes::ToController,
         place: true,
         copies: true,
         message: false,
     },
     Line {
         byte: b'X',
-        letter: Letter::X,
         asks: Asks::Controller(ControllerAsk::GoDown),
+        takes: Takes::Nothing,
         place: false,
         copies: false,
         message: false,
     },
     Line {
         byte: b'Y',
-        letter: Letter::Y,
         asks: Asks::Controller(ControllerAsk::ComeBack),
+        takes: Takes::Nothing,
         place: false,
         copies: false,
         message: false,
     },
     Line {
         byte: b'L',
-        letter: Letter::L,
         asks: Asks::NoEnd,
+        takes: Takes::ToController,
         place: true,
         copies: false,
         message: false,
     },
     Line {
         byte: b'M',
-        letter: Letter::M,
         asks: Asks::NoEnd,
+        takes: Takes::ToConsole,
         place: true,
         copies: false,
         message: false,

@@ -1,8 +1,8 @@
 pub mod Determined
 pub mod Ending
-pub mod Fitting
+pub mod FieldTests
+pub mod LineParts
 pub mod LineWritten
-pub mod Parts
 pub mod RecordRead
 pub mod Vectors
 pub mod Wrong

@@ -12,7 +12,7 @@ use Rattle.tables.proofs.change.clear.Reads as clear
 use Rattle.tables.proofs.shown.show_refusal.Kinds as show-refusal-kinds
 use Rattle.tables.proofs.shown.show_refusal.Reads as show-refusal
 use Rattle.tables.proofs.shown.show as show
-use Rattle.tables.proofs.Reading as reading
+use Rattle.tables.proofs.ShowPromise as reading
 
 pub take-out-determined : DeterminedWith take-out-kinds.ps take-out-kinds.r take-out.Post (λ κs s. now (s .0))
 take-out-determined κs a x y s t p q = (refl, p ∙ sym q)

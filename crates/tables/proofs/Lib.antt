@@ -1,8 +1,8 @@
 pub mod Determined
-pub mod Handing
-pub mod Parts
+pub mod LentParts
 pub mod Places
-pub mod Reading
+pub mod ShowParameters
+pub mod ShowPromise
 pub mod Showing
 pub mod Taking
 pub mod Vectors

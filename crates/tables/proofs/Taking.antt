@@ -9,7 +9,7 @@ use lib.Seq.{length-take-le, take-add, drop-at, drop-drop}
 use Rattle.ground.specs.Choice.{if_then_else_}
 use Rattle.ground.specs.Bytes.{field}
 use Rattle.tables.specs.Table.{takenOut}
-use Rattle.tables.proofs.Parts.{part, replaced, part-length, lent-at, back-at}
+use Rattle.tables.proofs.LentParts.{part, replaced, part-length, lent-at, back-at}
 
 last-length : (q : List ℕ) → 32 ≤ length q → length (drop (length q - 32) q) ≡ 32
 last-length q h = length-drop (length q - 32) q ∙ omega (arith, h)

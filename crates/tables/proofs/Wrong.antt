@@ -22,7 +22,7 @@ use Rattle.tables.proofs.change.clear.Reads as clear
 use Rattle.tables.proofs.shown.show_refusal.Kinds as show-refusal-kinds
 use Rattle.tables.proofs.shown.show_refusal.Reads as show-refusal
 use Rattle.tables.proofs.shown.show as show
-use Rattle.tables.proofs.Reading as reading
+use Rattle.tables.proofs.ShowPromise as reading
 
 -- ## Changing a table
 

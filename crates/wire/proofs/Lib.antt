@@ -1,14 +1,14 @@
 pub mod Determined
-pub mod Fitting
 pub mod Found
 pub mod Frames
 pub mod Heads
 pub mod Numbers
 pub mod Outcomes
+pub mod PacketsFit
 pub mod Reading
 pub mod RecordTrips
+pub mod Refusals
 pub mod Trips
-pub mod Untouched
 pub mod Vectors
 pub mod Writing
 pub mod Wrong

@@ -14,7 +14,7 @@ use Rattle.wire.specs.declared.ReadPacket.{ReadPacket}
 use Rattle.wire.specs.Frame.{field}
 use Rattle.wire.specs.Number.{bytesOf, value}
 use Rattle.wire.specs.Packet.{firstOf, secondOf, fits, packetBytes, headAt, carries, readRefusal, accepted, packetRead}
-use Rattle.wire.proofs.Fitting.{Typed, fits-both, fits-numbers, fits-message, message-sixteen}
+use Rattle.wire.proofs.PacketsFit.{Typed, fits-both, fits-numbers, fits-message, message-sixteen}
 use Rattle.wire.proofs.Frames.{framed, frame-rest, split-field}
 use Rattle.wire.proofs.Heads.{own-head, says}
 use Rattle.wire.proofs.Numbers.{value-bytesOf, field-below, field-back}

@@ -24,7 +24,7 @@ use Rattle.wire.specs.declared.ReadHead.the-variants.{Refused, Is}
 use Rattle.wire.specs.declared.ReadPacket.{ReadPacket}
 use Rattle.wire.specs.declared.ReadRecord.the-variants.{Refused as Unread, Is as Last}
 use Rattle.wire.specs.Record.{endOf, numberOf, lastUsedOf, recordBytes, recordRefusal, recordRead, recordWriteRefusal, recordWritten}
-use Rattle.wire.proofs.Fitting.{needI-fits}
+use Rattle.wire.proofs.PacketsFit.{needI-fits}
 use Rattle.wire.proofs.Heads.{is-other}
 use Rattle.wire.proofs.RecordTrips.{is-other as is-unread, record-read-back}
 use Rattle.wire.proofs.Vectors.{needI, needI-1, needI-1-read, needI-1-written}

@@ -1,8 +1,8 @@
 use mathlib.Core.Path.{refl}
 use borrow.Author.Needs.{needs}
 use Rattle.ground.specs.Choice.{if_then_else_}
-use Rattle.protocol.specs.Bench.{at}
-use Rattle.protocol.specs.Letters.{line, letters, among, letter}
+use Rattle.rules.specs.Bench.{at}
+use Rattle.rules.specs.Letters.{line, letters, among, letter}
 use Rattle.letters.specs.Lines.{foundAt}
 use Rattle.letters.proofs.Scan.{keyed, no-letter}
 use Rattle.letters.proofs.find.Statement.{statement}

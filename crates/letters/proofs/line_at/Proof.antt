@@ -1,5 +1,5 @@
 use borrow.Author.Needs.{needs}
-use Rattle.protocol.specs.Letters.{line, letters}
+use Rattle.rules.specs.Letters.{line, letters}
 use Rattle.letters.specs.Lines.{lineOf}
 use Rattle.letters.proofs.Scan.{at-line}
 use Rattle.letters.proofs.line_at.Statement.{statement}

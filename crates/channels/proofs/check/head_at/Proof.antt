@@ -1,3 +1,4 @@
+-- `channels::head_at` meets its contract: beyond the table no bytes are read, within it those of the place.
 use borrow.Author.Needs.{needs}
 use Rattle.channels.proofs.Scans.{head-none, head-place}
 use Rattle.channels.proofs.check.head_at.Statement.{statement}

@@ -1,3 +1,4 @@
+-- `channels::head_goes` meets its contract: what reads as no packet goes neither way, a head goes as the wire says.
 use borrow.Author.Needs.{needs}
 use Rattle.channels.proofs.Scans.{head-is}
 use Rattle.channels.proofs.check.head_goes.Statement.{statement}

@@ -1,3 +1,4 @@
+-- `channels::packet_at` meets its contract: beyond the table no bytes are read, within it those of the place.
 use borrow.Author.Needs.{needs}
 use Rattle.channels.proofs.Scans.{read-none, read-place}
 use Rattle.channels.proofs.check.packet_at.Statement.{statement}

@@ -1,3 +1,4 @@
+-- `channels::table_ok` meets its contract: a law for each `return`.
 use borrow.Author.Needs.{needs}
 use Rattle.channels.proofs.Scans.{table-tests}
 use Rattle.channels.proofs.check.table_ok.Statement.{statement}

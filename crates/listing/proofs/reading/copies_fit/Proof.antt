@@ -1,5 +1,5 @@
 -- `listing::reading::copies_fit` meets its contract, by whether the letter uses them.
-use Rattle.listing.proofs.Fitting.{copies-used, copies-unused}
+use Rattle.listing.proofs.FieldTests.{copies-used, copies-unused}
 use Rattle.listing.proofs.reading.copies_fit.Statement.{statement}
 use Rattle.listing.proofs.reading.copies_fit.Tie as tie
 

@@ -1,6 +1,6 @@
 -- `listing::reading::fields_fit` meets its contract, from what its calls promise.
 use borrow.Author.Needs.{needs}
-use Rattle.listing.proofs.Fitting.{fields-message, fields-fail}
+use Rattle.listing.proofs.FieldTests.{fields-message, fields-fail}
 use Rattle.listing.proofs.reading.fields_fit.Statement.{statement}
 use Rattle.listing.proofs.reading.fields_fit.Tie as tie
 

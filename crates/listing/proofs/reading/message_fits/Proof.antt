@@ -1,6 +1,6 @@
 -- `listing::reading::message_fits` meets its contract, by whether the letter uses it.
 use borrow.Author.Needs.{needs}
-use Rattle.listing.proofs.Fitting.{message-used, message-unused}
+use Rattle.listing.proofs.FieldTests.{message-used, message-unused}
 use Rattle.listing.proofs.reading.message_fits.Statement.{statement}
 use Rattle.listing.proofs.reading.message_fits.Tie as tie
 

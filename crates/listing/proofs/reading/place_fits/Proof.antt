@@ -1,6 +1,6 @@
 -- `listing::reading::place_fits` meets its contract, by whether the letter uses it.
 use borrow.Author.Needs.{needs}
-use Rattle.listing.proofs.Fitting.{place-used, place-unused}
+use Rattle.listing.proofs.FieldTests.{place-used, place-unused}
 use Rattle.listing.proofs.reading.place_fits.Statement.{statement}
 use Rattle.listing.proofs.reading.place_fits.Tie as tie
 

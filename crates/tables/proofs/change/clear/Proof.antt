@@ -3,7 +3,7 @@ use Prim.Native.Nat.{_≤_, _-_}
 use mathlib.Core.Path.{_≡_}
 use borrow.Author.Needs.{needs}
 use lib.ListN.{length, replicate}
-use Rattle.tables.proofs.Parts.{over, clear-on, clear-end}
+use Rattle.tables.proofs.LentParts.{over, clear-on, clear-end}
 use Rattle.tables.proofs.change.clear.Statement.{statement}
 use Rattle.tables.proofs.change.clear.Tie as tie
 

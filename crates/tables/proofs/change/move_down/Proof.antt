@@ -3,7 +3,7 @@ use Prim.Native.Nat.{_≤_, _-_}
 use mathlib.Core.Path.{_≡_}
 use borrow.Author.Needs.{needs}
 use lib.ListN.{length, drop}
-use Rattle.tables.proofs.Parts.{over, down-on, down-end}
+use Rattle.tables.proofs.LentParts.{over, down-on, down-end}
 use Rattle.tables.proofs.change.move_down.Statement.{statement}
 use Rattle.tables.proofs.change.move_down.Tie as tie
 

@@ -1,3 +1,4 @@
+-- `tables::take_out` meets its contract: a law for each `return`. Where the record is there, the two calls leave the later ones moved down and the last place clear.
 use borrow.Author.Needs.{needs}
 use Rattle.tables.proofs.Taking.{takes}
 use Rattle.tables.proofs.change.take_out.Statement.{statement}

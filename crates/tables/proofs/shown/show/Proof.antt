@@ -40,7 +40,7 @@ use Rattle.tables.proofs.shown.Way as D
 use Rattle.tables.proofs.shown.Way.Laws as D′
 use Rattle.tables.specs.Shown.{showRefusal, shown, shownAt, seen, showing}
 use Rattle.tables.specs.declared.shown.Shown.{Shown}
-use Rattle.tables.proofs.Handing.{Passed, passed, args, vals, values, Both, All, all-of, Entered, enters, goes}
+use Rattle.tables.proofs.ShowParameters.{Passed, passed, args, vals, values, Both, All, all-of, Entered, enters, goes}
 use Rattle.tables.proofs.shown.Shown as T
 use Rattle.tables.proofs.shown.Shown.Laws as T′
 use Rattle.tables.proofs.shown.show_refusal as refusal

@@ -1,3 +1,4 @@
+-- `tables::show_refusal` meets its contract: the tests that led to a `return` say which refusal is the first.
 use borrow.Author.Needs.{needs}
 use Rattle.tables.proofs.Showing.{show-refusals}
 use Rattle.tables.proofs.shown.show_refusal.Statement.{statement}

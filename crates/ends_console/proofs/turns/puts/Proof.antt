@@ -1,0 +1,14 @@
+-- `ends_console::turns::puts` meets its contract.
+use borrow.Author.Needs.{needs}
+use Rattle.ends_console.proofs.ActsDone.{puts-none, puts-one}
+use Rattle.ends_console.proofs.turns.puts.Statement.{statement}
+use Rattle.ends_console.proofs.turns.puts.Tie as tie
+
+pub puts-spec : {M : Type 1} → statement M
+puts-spec =
+    tie.close
+    (tie.spec
+    (λ c κs. search needs)
+    (λ c κs. search needs)
+    (λ c. search puts-none)
+    (λ c. search puts-one))

@@ -1,0 +1,61 @@
+-- The fields of a console: when they are well formed, and the end that they stand for. Assumes nothing.
+use Prim.Native.Nat.{ℕ}
+use mathlib.Core.Bool.{Bool, true, false, not, _&&_}
+use mathlib.Core.List.{List}
+use lib.Dec.{eqb}
+use Rattle.ground.specs.Cell.{isMessage, spaces}
+use Rattle.ground.specs.Every.{filled}
+use Rattle.ground.specs.Choice.{if_then_else_}
+use Rattle.wire.specs.declared.J.{J}
+use Rattle.rules.specs.Supply.{numbering}
+use Rattle.numbers.specs.Numbers.{numbersMeans, numbersFresh}
+use Rattle.numbers.specs.declared.Numbers.{Numbers}
+use Rattle.ends_console.specs.declared.Mode.{Mode}
+use Rattle.ends_console.specs.declared.Mode.the-variants.{NeedI, Send}
+use Rattle.ends_console.specs.declared.End.{End}
+use Rattle.ends_console.specs.declared.fields.Console.{Console}
+use Rattle.ends_console.specs.declared.fields.ConsoleRead.{ConsoleRead}
+use Rattle.ends_console.specs.declared.fields.ConsoleRead.the-variants as console-read
+
+-- with a message held exactly one of j and last is not 0; with none both are 0 and the message is 16 spaces. j is one of its own numbers
+unfoldable pub consoleOk : Console → Bool
+consoleOk c =
+    numbering .sound (numbersMeans (c .numbers))
+    && (if c .held
+    then isMessage (c .message)
+    && (if eqb (c .j .0) 0 then not (eqb (c .last .0) 0) else eqb (c .last .0) 0 && numbering .used (numbersMeans (c .numbers)) (c .j .0))
+    else eqb (c .j .0) 0 && eqb (c .last .0) 0 && filled 0x20 (c .message))
+
+-- idle, needI (j set), send (last set)
+unfoldable pub consoleMode : Console → Mode
+consoleMode c = if c .held then (if eqb (c .j .0) 0 then Send (c .last) else NeedI (c .j)) else Mode.Idle
+
+abbrev pub consoleEnd : Console → End
+consoleEnd c = record { numbers = c .numbers; mode = consoleMode c; up = c .up }
+
+unfoldable pub consoleRead : Console → ConsoleRead
+consoleRead c = if consoleOk c then console-read.Is (consoleEnd c) else console-read.IllFormed
+
+-- document 01's number of each case
+abbrev pub consoleReadRefusal : ConsoleRead → ℕ
+consoleReadRefusal console-read.IllFormed = 2
+consoleReadRefusal (console-read.Is e) = 0
+
+abbrev pub consoleWith : Numbers → Mode → Bool → List ℕ → Console
+consoleWith numbers Mode.Idle up m =
+    record { numbers = numbers; held = false; message = spaces; j = record { 0 = 0 }; last = record { 0 = 0 }; up = up }
+consoleWith numbers (NeedI j) up m = record { numbers = numbers; held = true; message = m; j = j; last = record { 0 = 0 }; up = up }
+consoleWith numbers (Send last) up m = record { numbers = numbers; held = true; message = m; j = record { 0 = 0 }; last = last; up = up }
+
+abbrev pub consoleFields : End → List ℕ → Console
+consoleFields e m = consoleWith (e .numbers) (e .mode) (e .up) m
+
+-- its last used, which a box keeps through a power loss
+abbrev pub lastUsedJ : Console → J
+lastUsedJ c = record { 0 = c .numbers .used }
+
+abbrev pub freshConsole : J → Console
+freshConsole used = consoleWith (numbersFresh (used .0)) Mode.Idle true spaces
+
+abbrev pub downedConsole : J → Console
+downedConsole used = consoleWith (numbersFresh (used .0)) Mode.Idle false spaces

@@ -1,0 +1,3 @@
+pub mod AsRules
+pub mod Fields
+pub mod FieldsAsRules

@@ -1,0 +1,11 @@
+pub mod ActsDone
+pub mod Decisions
+pub mod Determined
+pub mod FieldsAsRules
+pub mod FieldsRead
+pub mod MessageBeside
+pub mod PacketTaken
+pub mod WellFormed
+pub mod Wrong
+pub mod WrongDecisions
+pub mod WrongEach

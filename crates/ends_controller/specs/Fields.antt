@@ -1,0 +1,59 @@
+-- The fields of a controller: when they are well formed, and the end that they stand for. Assumes nothing.
+use Prim.Native.Nat.{ℕ}
+use mathlib.Core.Bool.{Bool, true, false, not, _&&_}
+use lib.Dec.{eqb}
+use Rattle.ground.specs.Choice.{if_then_else_}
+use Rattle.wire.specs.declared.I.{I}
+use Rattle.rules.specs.Supply.{numbering}
+use Rattle.numbers.specs.Numbers.{numbersMeans, numbersFresh}
+use Rattle.numbers.specs.declared.Numbers.{Numbers}
+use Rattle.ends_controller.specs.declared.Mode.the-variants.{Accept, Ack}
+use Rattle.ends_controller.specs.declared.Mode as controller
+use Rattle.ends_controller.specs.declared.End as controller-end
+use Rattle.ends_controller.specs.declared.fields.Controller.{Controller}
+use Rattle.ends_controller.specs.declared.fields.ControllerRead.{ControllerRead}
+use Rattle.ends_controller.specs.declared.fields.ControllerRead.the-variants as controller-read
+
+-- j and i both 0 or neither; i and last are not both set; each of them is one of its own numbers
+unfoldable pub controllerOk : Controller → Bool
+controllerOk c =
+    numbering .sound (numbersMeans (c .numbers))
+    && (if eqb (c .i .0) 0
+    then eqb (c .j .0) 0 && (if eqb (c .last .0) 0 then true else numbering .used (numbersMeans (c .numbers)) (c .last .0))
+    else not (eqb (c .j .0) 0) && eqb (c .last .0) 0 && numbering .used (numbersMeans (c .numbers)) (c .i .0))
+
+-- idle, accept (i set), ack (last set)
+unfoldable pub controllerMode : Controller → controller.Mode
+controllerMode c =
+    if eqb (c .i .0) 0 then (if eqb (c .last .0) 0 then controller.Mode.Idle else Ack (c .last)) else Accept (c .j) (c .i)
+
+abbrev pub controllerEnd : Controller → controller-end.End
+controllerEnd c = record { numbers = c .numbers; mode = controllerMode c; up = c .up }
+
+unfoldable pub controllerRead : Controller → ControllerRead
+controllerRead c = if controllerOk c then controller-read.Is (controllerEnd c) else controller-read.IllFormed
+
+-- document 01's number of each case
+abbrev pub controllerReadRefusal : ControllerRead → ℕ
+controllerReadRefusal controller-read.IllFormed = 2
+controllerReadRefusal (controller-read.Is e) = 0
+
+abbrev pub controllerWith : Numbers → controller.Mode → Bool → Controller
+controllerWith numbers controller.Mode.Idle up =
+    record { numbers = numbers; j = record { 0 = 0 }; i = record { 0 = 0 }; last = record { 0 = 0 }; up = up }
+controllerWith numbers (Accept j i) up = record { numbers = numbers; j = j; i = i; last = record { 0 = 0 }; up = up }
+controllerWith numbers (Ack last) up =
+    record { numbers = numbers; j = record { 0 = 0 }; i = record { 0 = 0 }; last = last; up = up }
+
+abbrev pub controllerFields : controller-end.End → Controller
+controllerFields e = controllerWith (e .numbers) (e .mode) (e .up)
+
+-- its last used, which a box keeps through a power loss
+abbrev pub lastUsedI : Controller → I
+lastUsedI c = record { 0 = c .numbers .used }
+
+abbrev pub freshController : I → Controller
+freshController used = controllerWith (numbersFresh (used .0)) controller.Mode.Idle true
+
+abbrev pub downedController : I → Controller
+downedController used = controllerWith (numbersFresh (used .0)) controller.Mode.Idle false

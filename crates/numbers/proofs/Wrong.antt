@@ -1,0 +1,77 @@
+-- Programs that the promises rule out, each at one input.
+use Prim.Native.Nat.{ℕ}
+use mathlib.Core.Path.{_≡_, refl, sym, ap, _∙_}
+use mathlib.Core.Bool.{true, false, true≢false, false≢true}
+use Rattle.ground.specs.Choice.{if_then_else_}
+use Rattle.ground.proofs.Promise.{RulesOut, unequal}
+use Rattle.rules.specs.Supply.{numbering, next-counted, largest}
+use Rattle.rules.specs.Ends.{absent}
+use Rattle.numbers.specs.Numbers.{numbersMeans, numbersBack, numbersFresh, numberOr0, numbersTaken, numbersAfter}
+use Rattle.numbers.specs.declared.Move.the-variants.{Stay, Take, Back}
+use Rattle.numbers.specs.declared.Numbers.{Numbers}
+use Rattle.numbers.proofs.fresh.Kinds as fresh-kinds
+use Rattle.numbers.proofs.fresh.Reads as fresh
+use Rattle.numbers.proofs.next.Kinds as next-kinds
+use Rattle.numbers.proofs.next.Reads as next
+use Rattle.numbers.proofs.back.Kinds as back-kinds
+use Rattle.numbers.proofs.back.Reads as back
+use Rattle.numbers.proofs.after.Kinds as after-kinds
+use Rattle.numbers.proofs.after.Reads as after
+use Rattle.numbers.proofs.is_used.Kinds as is-used-kinds
+use Rattle.numbers.proofs.is_used.Reads as is-used
+use Rattle.numbers.proofs.sound.Kinds as sound-kinds
+use Rattle.numbers.proofs.sound.Reads as sound
+
+abbrev up-to : ℕ → Numbers
+up-to n = record { used = n }
+
+abbrev last : Numbers → ℕ
+last n = n .used
+
+pub fresh-counts-from-0 : RulesOut fresh-kinds.ps fresh-kinds.r fresh.Post (λ κs a. a .0 ≡ 3) (λ κs a x s. x .used ≡ 0)
+fresh-counts-from-0 κs a x s e w p = unequal (sym w ∙ ap last (p ∙ ap numbersFresh e)) refl
+
+pub fresh-is-one-ahead : RulesOut fresh-kinds.ps fresh-kinds.r fresh.Post (λ κs a. a .0 ≡ 3) (λ κs a x s. x .used ≡ 4)
+fresh-is-one-ahead κs a x s e w p = unequal (sym w ∙ ap last (p ∙ ap numbersFresh e)) refl
+
+pub gives-1-again : RulesOut next-kinds.ps next-kinds.r next.Post (λ κs a. a .0 ≡ up-to 3) (λ κs a x s. x ≡ 1)
+unfolding next-counted if_then_else_
+gives-1-again κs a x s e w p = unequal (sym w ∙ p ∙ ap (λ (n : Numbers). numberOr0 (numbering .next (numbersMeans n))) e) refl
+
+pub starts-over-after-the-largest : RulesOut next-kinds.ps next-kinds.r next.Post (λ κs a. a .0 ≡ up-to largest) (λ κs a x s. x ≡ 1)
+unfolding next-counted if_then_else_
+starts-over-after-the-largest κs a x s e w p = unequal (sym w ∙ p ∙ ap (λ (n : Numbers). numberOr0 (numbering .next (numbersMeans n))) e) refl
+
+pub back-starts-at-0 : RulesOut back-kinds.ps back-kinds.r back.Post (λ κs a. a .0 ≡ up-to 3) (λ κs a x s. x .used ≡ 0)
+back-starts-at-0 κs a x s e w p = unequal (sym w ∙ ap last (p ∙ ap (λ (n : Numbers). numbersBack (numbering .back (numbersMeans n))) e)) refl
+
+-- the number that was taken last is given again
+pub back-gives-one-back : RulesOut back-kinds.ps back-kinds.r back.Post (λ κs a. a .0 ≡ up-to 3) (λ κs a x s. x .used ≡ 2)
+back-gives-one-back κs a x s e w p = unequal (sym w ∙ ap last (p ∙ ap (λ (n : Numbers). numbersBack (numbering .back (numbersMeans n))) e)) refl
+
+pub takes-one-and-stays : RulesOut after-kinds.ps after-kinds.r after.Post (λ κs a. (a .0 ≡ up-to 3) × (a .1 .0 ≡ Take)) (λ κs a x s. x .used ≡ 3)
+unfolding numbersTaken absent next-counted if_then_else_
+takes-one-and-stays κs a x s e w p = unequal (sym w ∙ ap last (p ∙ (λ i. numbersAfter (e .1 i) (e .0 i)))) refl
+
+pub stays-and-takes-one : RulesOut after-kinds.ps after-kinds.r after.Post (λ κs a. (a .0 ≡ up-to 3) × (a .1 .0 ≡ Stay)) (λ κs a x s. x .used ≡ 4)
+stays-and-takes-one κs a x s e w p = unequal (sym w ∙ ap last (p ∙ (λ i. numbersAfter (e .1 i) (e .0 i)))) refl
+
+pub a-number-above-last-used-is-used : RulesOut is-used-kinds.ps is-used-kinds.r is-used.Post (λ κs a. (a .0 ≡ up-to 3) × (a .1 .0 ≡ 4)) (λ κs a x s. x ≡ true)
+a-number-above-last-used-is-used κs a x s e w p = true≢false (sym w ∙ p ∙ (λ i. numbering .used (numbersMeans (e .0 i)) (e .1 i)))
+
+pub last-used-is-not-used : RulesOut is-used-kinds.ps is-used-kinds.r is-used.Post (λ κs a. (a .0 ≡ up-to 3) × (a .1 .0 ≡ 3)) (λ κs a x s. x ≡ false)
+last-used-is-not-used κs a x s e w p = false≢true (sym w ∙ p ∙ (λ i. numbering .used (numbersMeans (e .0 i)) (e .1 i)))
+
+pub fresh-numbers-are-unsound : RulesOut sound-kinds.ps sound-kinds.r sound.Post (λ κs a. a .0 ≡ up-to 0) (λ κs a x s. x ≡ false)
+fresh-numbers-are-unsound κs a x s e w p = false≢true (sym w ∙ p ∙ ap (λ (n : Numbers). numbering .sound (numbersMeans n)) e)
+
+pub spent-numbers-are-unsound : RulesOut sound-kinds.ps sound-kinds.r sound.Post (λ κs a. a .0 ≡ up-to largest) (λ κs a x s. x ≡ false)
+spent-numbers-are-unsound κs a x s e w p = false≢true (sym w ∙ p ∙ ap (λ (n : Numbers). numbering .sound (numbersMeans n)) e)
+
+pub taking-starts-over : RulesOut after-kinds.ps after-kinds.r after.Post (λ κs a. (a .0 ≡ up-to largest) × (a .1 .0 ≡ Take)) (λ κs a x s. x .used ≡ 0)
+unfolding numbersTaken absent next-counted if_then_else_
+taking-starts-over κs a x s e w p = unequal (sym w ∙ ap last (p ∙ (λ i. numbersAfter (e .1 i) (e .0 i)))) refl
+
+pub coming-back-starts-at-0 : RulesOut after-kinds.ps after-kinds.r after.Post (λ κs a. (a .0 ≡ up-to 3) × (a .1 .0 ≡ Back)) (λ κs a x s. x .used ≡ 0)
+unfolding numbersTaken
+coming-back-starts-at-0 κs a x s e w p = unequal (sym w ∙ ap last (p ∙ (λ i. numbersAfter (e .1 i) (e .0 i)))) refl

@@ -1,0 +1,75 @@
+// The numbers of an end, as plain numbers: an end wraps them as its J or its I. next, take, back, is_used and sound are the fields of the rules' supply;
+// fresh starts it, and after is what a step does to it. No function here is an entry: the crates above call them, and docs/PROMISES.md lists why.
+ghost use mathlib.Core.Path.{_≡_};
+ghost use Rattle.rules.specs.Supply.{numbering};
+ghost use Rattle.numbers.specs.Numbers.{numbersMeans, numberOr0, numbersFresh, numbersTaken, numbersBack, numbersAfter};
+
+// Last used, 0 to 4,294,967,295.
+pub struct Numbers {
+    pub used: u32,
+}
+
+// What a step does to an end's numbers.
+pub enum Move {
+    Stay,
+    Take,
+    Back,
+}
+
+// The numbers of a fresh end.
+pub fn fresh(used: u32) -> Numbers
+    ensures { λ r. ⌜ r ≡ numbersFresh used ⌝ }
+{
+    Numbers { used }
+}
+
+// The number that is taken next; 0: the numbers are spent.
+pub fn next(n: Numbers) -> u32
+    ensures { λ r. ⌜ r ≡ numberOr0 (numbering .next (numbersMeans n)) ⌝ }
+{
+    if n.used == 4294967295 {
+        return 0;
+    }
+    n.used + 1
+}
+
+// What is left when the next has been taken; numbers that are spent stay.
+fn take(n: Numbers) -> Numbers
+    ensures { λ r. ⌜ r ≡ numbersTaken n ⌝ }
+{
+    if n.used == 4294967295 {
+        return n;
+    }
+    Numbers { used: n.used + 1 }
+}
+
+// What coming back makes of them.
+pub fn back(n: Numbers) -> Numbers
+    ensures { λ r. ⌜ r ≡ numbersBack (numbering .back (numbersMeans n)) ⌝ }
+{
+    n
+}
+
+// What a step leaves.
+pub fn after(n: Numbers, step: Move) -> Numbers
+    ensures { λ r. ⌜ r ≡ numbersAfter step n ⌝ }
+{
+    match step {
+        Move::Stay => n,
+        Move::Take => take(n),
+        Move::Back => back(n),
+    }
+}
+
+pub fn is_used(n: Numbers, number: u32) -> bool
+    ensures { λ r. ⌜ r ≡ numbering .used (numbersMeans n) number ⌝ }
+{
+    number <= n.used
+}
+
+// What a well-formed end has.
+pub fn sound(n: Numbers) -> bool
+    ensures { λ r. ⌜ r ≡ numbering .sound (numbersMeans n) ⌝ }
+{
+    n.used <= 4294967295
+}

@@ -1,0 +1,10 @@
+-- Every starred check of document 01 comes out as its line says. Assumes nothing.
+use mathlib.Core.Path.{_≡_, refl}
+use mathlib.Core.List.{map}
+use Rattle.ground.specs.Cell.{isMessage, cells}
+use Rattle.rules.specs.Bench.{rules}
+use Rattle.rules.specs.Starred.{played, starred}
+
+pub starred-hold : map played starred ≡ starred
+unfolding starred played rules isMessage cells
+starred-hold = refl

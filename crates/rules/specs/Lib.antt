@@ -1,0 +1,15 @@
+pub mod Bears
+pub mod Bench
+pub mod Demand3
+pub mod Ends
+pub mod Judge
+pub mod Letters
+pub mod Lists
+pub mod Log
+pub mod Offered
+pub mod Plain
+pub mod Radio
+pub mod Relabel
+pub mod Starred
+pub mod Supply
+pub mod WellFormed

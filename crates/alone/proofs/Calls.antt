@@ -16,22 +16,24 @@ use Rattle.wire.specs.Packet.{packetRead}
 use Rattle.wire.specs.declared.Head.{Head}
 use Rattle.wire.specs.declared.ReadHead.{ReadHead}
 use Rattle.wire.specs.declared.ReadHead.the-variants as read-head
-use Rattle.protocol.specs.Supply.{numbering}
-use Rattle.protocol.specs.Letters as letters
-use Rattle.protocol.specs.Letters.{Letter, line, letter, Asks, the-console, the-controller, neither-end, ConsoleAsk, ControllerAsk}
-use Rattle.protocol.specs.Ends as rules
-use Rattle.protocol.specs.Bench.{Bench, Asked, at, asked-to, asks}
-use Rattle.protocol.specs.Relabel.{in-packet}
-use Rattle.ends.specs.Fields.{consoleOk, controllerOk}
-use Rattle.ends.specs.InRules.{consoleMeans, controllerMeans}
-use Rattle.ends.specs.Means.{forConsole, forController, toConsole, toController}
+use Rattle.rules.specs.Supply.{numbering}
+use Rattle.rules.specs.Letters as letters
+use Rattle.rules.specs.Letters.{Letter, line, letter, Asks, the-console, the-controller, neither-end, ConsoleAsk, ControllerAsk}
+use Rattle.rules.specs.Ends as rules
+use Rattle.rules.specs.Bench.{Bench, Asked, at, asked-to, asks}
+use Rattle.rules.specs.Relabel.{in-packet}
+use Rattle.ends_console.specs.Fields.{consoleOk}
+use Rattle.ends_controller.specs.Fields.{controllerOk}
+use Rattle.ends_console.specs.FieldsAsRules.{consoleMeans}
+use Rattle.ends_controller.specs.FieldsAsRules.{controllerMeans}
+use Rattle.ends.specs.AsRules.{forConsole, forController, toConsole, toController}
 use Rattle.ends.specs.Packets.{headForConsole, headForController, readForConsole, readForController}
 use Rattle.ends.specs.declared.ForConsole.{ForConsole}
 use Rattle.ends.specs.declared.ForConsole.the-variants as for-console
 use Rattle.ends.specs.declared.ForController.{ForController}
 use Rattle.ends.specs.declared.ForController.the-variants as for-controller
-use Rattle.ends.specs.declared.fields.Console.{Console}
-use Rattle.ends.specs.declared.fields.Controller.{Controller}
+use Rattle.ends_console.specs.declared.fields.Console.{Console}
+use Rattle.ends_controller.specs.declared.fields.Controller.{Controller}
 use Rattle.alone.specs.ConsoleAlone.{ConsoleAlone, consoleRefused, consoleTold, consoleActs, consoleTakes, consoleHears, consoleLent, consoleAsked, consoleAsks, consoleLetter, consoleAlone}
 use Rattle.alone.specs.ControllerAlone.{ControllerAlone, controllerRefused, controllerTold, controllerActs, controllerTakes, controllerHead, controllerLent, controllerAsked, controllerAsks, controllerLetter, controllerAlone}
 

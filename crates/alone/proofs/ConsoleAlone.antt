@@ -10,17 +10,18 @@ use lib.Dec.{eqb}
 use borrow.Author.Tests.{eq-eqb, ne-eqb, eqb-true, eqb-false}
 use Rattle.ground.specs.Choice.{if_then_else_}
 use Rattle.ground.specs.Cell.{isMessage}
-use Rattle.ground.specs.First.{first, refusal}
+use Rattle.ground.specs.First.{first, refusal, applies}
 use Rattle.ground.proofs.Tests.{by-test}
 use Rattle.wire.specs.Packet.{numbered, packetRead}
 use Rattle.wire.proofs.Outcomes.{read-numbered}
 use Rattle.wire.specs.declared.Head.{Head}
 use Rattle.wire.specs.declared.ReadHead.{ReadHead}
 use Rattle.wire.specs.declared.ReadHead.the-variants as read-head
-use Rattle.protocol.specs.Supply.{numbering, next-counted}
-use Rattle.protocol.specs.Letters.{Letter, line, letter, Asks, the-console, the-controller, neither-end}
-use Rattle.protocol.specs.Ends as rules
-use Rattle.protocol.specs.Relabel.{in-packet, in-console, in-console-act}
+use Rattle.rules.specs.Supply.{numbering, Numbers}
+use Rattle.rules.specs.Letters.{Letter, line, letter, Asks, the-console, the-controller, neither-end}
+use Rattle.rules.specs.Ends as rules
+use Rattle.rules.specs.Relabel.{in-packet, in-console, in-console-act}
+use Rattle.numbers.specs.Numbers.{numbersMeans}
 use Rattle.letters.specs.Lines.{foundOf, consoleAskMeans, asksMeans}
 use Rattle.letters.proofs.Asking.{nothing-found, line-found}
 use Rattle.letters.specs.declared.ConsoleAsk.{ConsoleAsk}
@@ -31,57 +32,90 @@ use Rattle.letters.specs.declared.Asks.the-variants as asked
 use Rattle.letters.specs.declared.Line.{Line}
 use Rattle.letters.specs.declared.Found.{Found}
 use Rattle.letters.specs.declared.Found.the-variants as found
-use Rattle.ends.specs.Means.{Beside, tested, toConsole, forConsole, forController, forControllerBack}
-use Rattle.ends.specs.Console.{mode, end, act, acted}
-use Rattle.ends.specs.Fields.{consoleWasRead, consoleOk, consoleRead, consoleEnd, consoleFields}
-use Rattle.ends.specs.InRules.{consoleBack, consoleActed}
+use Rattle.ends.specs.AsRules.{Beside, tested, toConsole, forConsole, forController, forControllerBack}
+use Rattle.ends_console.specs.AsRules.{mode, end, acted}
+use Rattle.ends_console.specs.Fields.{consoleOk, consoleRead, consoleEnd, consoleFields}
+use Rattle.ends_console.specs.FieldsAsRules.{consoleBack, consoleActed}
 use Rattle.ends.specs.Packets.{toControllerPacket, toControllerSent, headForConsole}
-use Rattle.ends.proofs.ConsoleBeside.{refusalOf, step-done, step-refused}
-use Rattle.ends.proofs.ConsoleFields.{was-read, was-read-so}
-use Rattle.ends.proofs.ConsoleRefusals.{same-for-controller, refuses-needI, refuses-data, take-up, take-4, down-0, back-5, back-0}
-use Rattle.ends.proofs.Telling.{unchanged}
+use Rattle.ends_console.proofs.MessageBeside.{refusalOf, step-done, step-refused}
+use Rattle.ends_console.proofs.FieldsRead.{was-read, not-read}
+use Rattle.ends_console.proofs.Decisions.{same-for-controller}
+use Rattle.ends_console.proofs.FieldsAsRules.{unchanged}
 use Rattle.ends.specs.declared.ToConsole.{ToConsole}
 use Rattle.ends.specs.declared.ForConsole.{ForConsole}
 use Rattle.ends.specs.declared.ForConsole.the-variants as for-console
 use Rattle.ends.specs.declared.ForController.{ForController}
-use Rattle.ends.specs.declared.console.Acted.{Acted}
-use Rattle.ends.specs.declared.console.End.{End}
-use Rattle.ends.specs.declared.console.Act.{Act}
-use Rattle.ends.specs.declared.console.Act.the-variants.{Put, SendNeedI, SendData, Take, GoDown, ComeBack}
+use Rattle.ends_console.specs.declared.Acted.{Acted}
+use Rattle.ends_console.specs.declared.End.{End}
 use Rattle.ends.specs.declared.Report.{Report}
 use Rattle.ends.specs.declared.Report.the-variants as report
-use Rattle.ends.specs.declared.fields.Console.{Console}
-use Rattle.ends.specs.declared.fields.ConsoleRead.{ConsoleRead}
-use Rattle.ends.specs.declared.fields.ConsoleRead.the-variants.{IllFormed, Is}
+use Rattle.ends_console.specs.declared.fields.Console.{Console}
+use Rattle.ends_console.specs.declared.fields.ConsoleRead.{ConsoleRead}
+use Rattle.ends_console.specs.declared.fields.ConsoleRead.the-variants.{IllFormed, Is}
 use Rattle.alone.specs.declared.console.ConsoleOutcome.{ConsoleOutcome}
 use Rattle.alone.specs.Alone.{replied}
 use Rattle.alone.specs.ConsoleAlone.{ConsoleAlone, consoleRefused, consoleTold, consoleActs, consoleTakes, consoleHears, consoleLent, consoleAsked, consoleAsks, consoleLetter, consoleAlone}
-use Rattle.alone.specs.ConsoleWithin.{consoleTells, consoleSends}
-use Rattle.alone.proofs.ConsoleTold.{told, done-told, absent-told}
+use Rattle.alone.specs.ConsolePrivate.{consoleTells, consoleSends}
+use Rattle.alone.proofs.ConsoleOutcome.{told, done-told, absent-told}
 
 -- what is told of a refusal
 abbrev refusing : ℕ → Console → ConsoleOutcome
 refusing n c = record { report = report.Refused n; sent = false; console = c }
 
+-- ## Refusals that ask whether it is up, and what it would send
+
+module _ (e : End) (good : Bool) where
+  abbrev refused-by : rules.ConsoleAct Beside → ℕ
+  refused-by a = refusal (rules.console-rules numbering (tested good) (end e) a)
+
+  -- 4 and 6 of what the code would send
+  refuses-needI : {s : ForController} → s ≡ forControllerBack (rules.needI-sent (mode (e .mode))) → first (rules.down-4 (e .up) ∷ rules.mode-6 (forController s) ∷ []) ≡ refused-by rules.send-needI
+  unfolding refusal first applies if_then_else_ rules.console-rules
+  refuses-needI f = rw (f, same-for-controller (rules.needI-sent (mode (e .mode))))
+
+  refuses-data : {s : ForController} → s ≡ forControllerBack (rules.data-sent (mode (e .mode))) → first (rules.down-4 (e .up) ∷ rules.mode-6 (forController s) ∷ []) ≡ refused-by rules.send-data
+  unfolding refusal first applies if_then_else_ rules.console-rules
+  refuses-data f = rw (f, same-for-controller (rules.data-sent (mode (e .mode))))
+
+  take-4 : (p : ToConsole) → e .up ≡ false → 4 ≡ refused-by (rules.ConsoleAct.take (some (toConsole p)))
+  unfolding refusal first applies if_then_else_ rules.console-rules
+  take-4 p u = rw u
+
+  take-0 : (p : ToConsole) → e .up ≡ true → 0 ≡ refused-by (rules.ConsoleAct.take (some (toConsole p)))
+  unfolding refusal first applies if_then_else_ rules.console-rules
+  take-0 p u = rw u
+
+  down-0 : 0 ≡ refused-by rules.ConsoleAct.go-down
+  unfolding refusal first applies if_then_else_ rules.console-rules
+  down-0 = refl
+
+  back-5 : e .up ≡ true → 5 ≡ refused-by rules.ConsoleAct.come-back
+  unfolding refusal first applies if_then_else_ rules.console-rules
+  back-5 u = rw u
+
+  back-0 : e .up ≡ false → 0 ≡ refused-by rules.ConsoleAct.come-back
+  unfolding refusal first applies if_then_else_ rules.console-rules
+  back-0 u = rw u
+
 -- ## An act of a console that was read
 
-module _ {n : ℕ} (c : Console) (e : End) (read : consoleRead c ≡ Is e) (long : length (c .message) ≡ 16) (a : Act) (m : List ℕ) (refuses : n ≡ refusalOf e a m) where
-  number-is : n ≡ refusalOf (consoleEnd c) a m
-  number-is = refuses ∙ ap (λ (x : End). refusalOf x a m) (was-read c read .1)
+module _ {n : ℕ} (c : Console) (e : End) (read : consoleRead c ≡ Is e) (long : length (c .message) ≡ 16) (a : rules.ConsoleAct Beside) (m : List ℕ) (refuses : n ≡ refusalOf numbering (end e) a m) where
+  number-is : n ≡ refusalOf numbering (end (consoleEnd c)) a m
+  number-is = refuses ∙ ap (λ (x : End). refusalOf numbering (end x) a m) (was-read c read .1)
 
-  act-refused : {x : ConsoleOutcome} (reply : List ℕ) → (n ≡ 0 → ⊥) → x ≡ refusing n c → record { outcome = x; reply = reply } ≡ consoleActs c reply (in-console-act (λ _. m) (act a))
+  act-refused : {x : ConsoleOutcome} (reply : List ℕ) → (n ≡ 0 → ⊥) → x ≡ refusing n c → record { outcome = x; reply = reply } ≡ consoleActs c reply (in-console-act (λ _. m) a)
   unfolding rules.absent consoleActs
   act-refused reply z h =
       let same = sym (unchanged c long (was-read c read .0)) in
       (λ i. record { outcome = h i; reply = reply })
       ∙ (λ i. record { outcome = record { report = report.Refused (number-is i); sent = false; console = same i }; reply = reply })
-      ∙ ap (λ (d : rules.ConsoleActed ℕ (List ℕ)). consoleTold d reply) (sym (step-refused (consoleEnd c) (c .message) a m (λ q. z (number-is ∙ q))))
+      ∙ ap (λ (d : rules.ConsoleActed Numbers (List ℕ)). consoleTold d reply) (sym (step-refused numbering (end (consoleEnd c)) (c .message) a m (λ q. z (number-is ∙ q))))
 
-  act-done : {x : ConsoleAlone} (reply : List ℕ) → n ≡ 0 → x ≡ consoleTold (consoleActed e (c .message) a m) reply → x ≡ consoleActs c reply (in-console-act (λ _. m) (act a))
+  act-done : {x : ConsoleAlone} (reply : List ℕ) → n ≡ 0 → x ≡ consoleTold (consoleActed e (c .message) a m) reply → x ≡ consoleActs c reply (in-console-act (λ _. m) a)
   unfolding consoleActs
   act-done reply z h =
       h ∙ ap (λ (x : End). consoleTold (consoleActed x (c .message) a m) reply) (was-read c read .1)
-      ∙ ap (λ (d : rules.ConsoleActed ℕ (List ℕ)). consoleTold d reply) (sym (step-done (consoleEnd c) (c .message) a m (sym number-is ∙ z)))
+      ∙ ap (λ (d : rules.ConsoleActed Numbers (List ℕ)). consoleTold d reply) (sym (step-done numbering (end (consoleEnd c)) (c .message) a m (sym number-is ∙ z)))
 
 -- the code's answers, put together
 pub done-so : {v : Console} (d : Acted) (m : List ℕ) → v ≡ consoleFields (d .after) m → _≡_ {A = ConsoleOutcome} (record { report = d .report; sent = false; console = v }) (record { report = d .report; sent = false; console = consoleFields (d .after) m })
@@ -95,33 +129,33 @@ put-silent none k = refl
 put-silent (some j) k = refl
 
 module _ {n : ℕ} {good : Bool} (c : Console) (e : End) (m : List ℕ) (read : consoleRead c ≡ Is e) (long : length (c .message) ≡ 16) (tests : good ≡ isMessage m) (refuses : n ≡ refusal (rules.console-rules numbering (tested good) (end e) (rules.put tt))) where
-  number : n ≡ refusalOf e Put m
+  number : n ≡ refusalOf numbering (end e) (rules.put tt) m
   number = refuses ∙ ap (λ (g : Bool). refusal (rules.console-rules numbering (tested g) (end e) (rules.put tt))) tests
 
   pub put-refused : {x : ConsoleOutcome} → (n ≡ 0 → ⊥) → x ≡ refusing n c → (reply : List ℕ) → record { outcome = x; reply = reply } ≡ consoleActs c reply (rules.put m)
-  put-refused z h reply = act-refused c e read long Put m number reply z h
+  put-refused z h reply = act-refused c e read long (rules.put tt) m number reply z h
 
   pub put-done : {x : ConsoleOutcome} {d : Acted} → n ≡ 0 → d ≡ acted (rules.console-acts numbering (end e) (rules.put tt)) → x ≡ record { report = d .report; sent = false; console = consoleFields (d .after) m }
       → (reply : List ℕ) → record { outcome = x; reply = reply } ≡ consoleActs c reply (rules.put m)
   unfolding rules.console-acts rules.console-turn
   put-done z f h reply =
-      act-done c e read long Put m number reply z (done-told (rules.console-acts numbering (end e) (rules.put tt)) m reply (put-silent (next-counted (e .used .0)) (mode (e .mode))) f h)
+      act-done c e read long (rules.put tt) m number reply z (done-told (rules.console-acts numbering (end e) (rules.put tt)) m reply (put-silent (numbering .next (numbersMeans (e .numbers))) (mode (e .mode))) f h)
 
 module _ {x : ConsoleOutcome} (c : Console) (e : End) (read : consoleRead c ≡ Is e) (long : length (c .message) ≡ 16) where
   pub down-done : {d : Acted} → d ≡ acted (rules.console-acts numbering (end e) rules.ConsoleAct.go-down) → x ≡ record { report = d .report; sent = false; console = consoleFields (d .after) (c .message) }
       → (reply : List ℕ) → record { outcome = x; reply = reply } ≡ consoleActs c reply rules.ConsoleAct.go-down
   unfolding rules.console-acts rules.console-turn
   down-done f h reply =
-      act-done c e read long GoDown (c .message) (down-0 e (isMessage (c .message)) refl) reply refl (done-told (rules.console-acts numbering (end e) rules.ConsoleAct.go-down) (c .message) reply refl f h)
+      act-done c e read long rules.ConsoleAct.go-down (c .message) (down-0 e (isMessage (c .message))) reply refl (done-told (rules.console-acts numbering (end e) rules.ConsoleAct.go-down) (c .message) reply refl f h)
 
   pub back-refused : e .up ≡ true → x ≡ refusing 5 c → (reply : List ℕ) → record { outcome = x; reply = reply } ≡ consoleActs c reply rules.ConsoleAct.come-back
-  back-refused u h reply = act-refused c e read long ComeBack (c .message) (back-5 e (isMessage (c .message)) refl u) reply (λ z. omega (arith, z)) h
+  back-refused u h reply = act-refused c e read long rules.ConsoleAct.come-back (c .message) (back-5 e (isMessage (c .message)) u) reply (λ z. omega (arith, z)) h
 
   pub back-done : {d : Acted} → e .up ≡ false → d ≡ acted (rules.console-acts numbering (end e) rules.ConsoleAct.come-back) → x ≡ record { report = d .report; sent = false; console = consoleFields (d .after) (c .message) }
       → (reply : List ℕ) → record { outcome = x; reply = reply } ≡ consoleActs c reply rules.ConsoleAct.come-back
   unfolding rules.console-acts rules.console-turn
   back-done u f h reply =
-      act-done c e read long ComeBack (c .message) (back-0 e (isMessage (c .message)) refl u) reply refl (done-told (rules.console-acts numbering (end e) rules.ConsoleAct.come-back) (c .message) reply refl f h)
+      act-done c e read long rules.ConsoleAct.come-back (c .message) (back-0 e (isMessage (c .message)) u) reply refl (done-told (rules.console-acts numbering (end e) rules.ConsoleAct.come-back) (c .message) reply refl f h)
 
 -- ## Q and D
 
@@ -147,7 +181,7 @@ module _ (c : Console) (reply : List ℕ) where
         lent-so _ l ((λ i. record { outcome = record { report = report.Nothing; sent = f i; console = c }; reply = g i }) ∙ rw (← refuses, z))
 
 -- an act that changes nothing, and sends o
-abbrev stays : End → List ℕ → Option (rules.ToController Beside) → rules.ConsoleActed ℕ (List ℕ)
+abbrev stays : End → List ℕ → Option (rules.ToController Beside) → rules.ConsoleActed Numbers (List ℕ)
 stays e held o = record { report = rules.nothing; sent = Option·map (in-packet (λ _. held)) o; after = in-console (λ _. held) (end e) }
 
 -- what they would send is what the rules' console would
@@ -157,28 +191,28 @@ module _ {s : ForController} (c : Console) (e : End) (reply : List ℕ) (read : 
   unfolding toControllerSent
   stays-told o f =
       let sent = ap forController f ∙ same-for-controller o in
-      let same = sym (ap (λ (x : End). consoleBack (in-console (λ _. (c .message)) (end x))) (was-read c read .1) ∙ unchanged c long (was-read c read .0)) in
+      let same = sym (ap (λ (x : End). consoleBack (in-console (λ _. c .message) (end x))) (was-read c read .1) ∙ unchanged c long (was-read c read .0)) in
       let says = ap rules.absent sent ∙ absent-told (c .message) o in
-      λ i. record { outcome = record { report = report.Nothing; sent = not (says i); console = same i }; reply = replied (Option·map toControllerPacket (Option·map (in-packet (λ _. (c .message))) (sent i))) reply }
+      λ i. record { outcome = record { report = report.Nothing; sent = not (says i); console = same i }; reply = replied (Option·map toControllerPacket (Option·map (in-packet (λ _. c .message)) (sent i))) reply }
 
-  sends-so : (a : Act) (o : Option (rules.ToController Beside)) → s ≡ forControllerBack o → first (rules.down-4 (e .up) ∷ rules.mode-6 (forController s) ∷ []) ≡ refusalOf e a (c .message) → consoleActed e (c .message) a (c .message) ≡ stays e (c .message) o
-      → consoleSends c (e .up) s reply ≡ consoleActs c reply (in-console-act (λ _. (c .message)) (act a))
+  sends-so : (a : rules.ConsoleAct Beside) (o : Option (rules.ToController Beside)) → s ≡ forControllerBack o → first (rules.down-4 (e .up) ∷ rules.mode-6 (forController s) ∷ []) ≡ refusalOf numbering (end e) a (c .message) → consoleActed e (c .message) a (c .message) ≡ stays e (c .message) o
+      → consoleSends c (e .up) s reply ≡ consoleActs c reply (in-console-act (λ _. c .message) a)
   unfolding consoleSends if_then_else_
   sends-so a o f r w =
       let n = first (rules.down-4 (e .up) ∷ rules.mode-6 (forController s) ∷ []) in
       by-test (eqb n 0)
-      (λ t. rw t (act-done c e read long a (c .message) r reply (eqb-true n 0 t) (stays-told o f ∙ ap (λ (d : rules.ConsoleActed ℕ (List ℕ)). consoleTold d reply) (sym w))))
+      (λ t. rw t (act-done c e read long a (c .message) r reply (eqb-true n 0 t) (stays-told o f ∙ ap (λ (d : rules.ConsoleActed Numbers (List ℕ)). consoleTold d reply) (sym w))))
       (λ t. rw t (act-refused c e read long a (c .message) r reply (eqb-false n 0 t) refl))
 
   pub asked-needI : {x : ConsoleAlone} → s ≡ forControllerBack (rules.needI-sent (mode (e .mode))) → x ≡ consoleLent c reply (consoleSends c (e .up) s reply) → x ≡ consoleLent c reply (consoleActs c reply rules.send-needI)
   unfolding rules.console-acts rules.console-turn rules.end-after rules.numbers-after rules.up-after
   asked-needI f h =
-      h ∙ ap (consoleLent c reply) (sends-so SendNeedI (rules.needI-sent (mode (e .mode))) f (refuses-needI e (isMessage (c .message)) refl f refl) refl)
+      h ∙ ap (consoleLent c reply) (sends-so rules.send-needI (rules.needI-sent (mode (e .mode))) f (refuses-needI e (isMessage (c .message)) f) refl)
 
   pub asked-data : {x : ConsoleAlone} → s ≡ forControllerBack (rules.data-sent (mode (e .mode))) → x ≡ consoleLent c reply (consoleSends c (e .up) s reply) → x ≡ consoleLent c reply (consoleActs c reply rules.send-data)
   unfolding rules.console-acts rules.console-turn rules.end-after rules.numbers-after rules.up-after
   asked-data f h =
-      h ∙ ap (consoleLent c reply) (sends-so SendData (rules.data-sent (mode (e .mode))) f (refuses-data e (isMessage (c .message)) refl f refl) refl)
+      h ∙ ap (consoleLent c reply) (sends-so rules.send-data (rules.data-sent (mode (e .mode))) f (refuses-data e (isMessage (c .message)) f) refl)
 
 -- ## S
 
@@ -189,13 +223,13 @@ module _ {came : ForConsole} (c : Console) (e : End) (h : Head) (reply : List �
   module _ {p : ToConsole} (g : came ≡ for-console.Packet p) where
     pub hears-4 : {x : ConsoleOutcome} → e .up ≡ false → x ≡ refusing 4 c → record { outcome = x; reply = reply } ≡ consoleTakes c reply (headForConsole h)
     hears-4 u w =
-        act-refused c e read long (Take (for-console.Packet p)) (c .message) (take-4 e (isMessage (c .message)) {p = for-console.Packet p} refl u) reply (λ z. omega (arith, z)) w
+        act-refused c e read long (rules.ConsoleAct.take (some (toConsole p))) (c .message) (take-4 e (isMessage (c .message)) p u) reply (λ z. omega (arith, z)) w
         ∙ ap (consoleTakes c reply) (sym g ∙ f)
 
     pub hears-done : {x : ConsoleAlone} {d : Acted} → e .up ≡ true → d ≡ acted (rules.console-acts numbering (end e) (rules.ConsoleAct.take (forConsole (for-console.Packet p)))) → x ≡ consoleTells d (c .message) reply
         → x ≡ consoleTakes c reply (headForConsole h)
     hears-done u q w =
-        act-done c e read long (Take (for-console.Packet p)) (c .message) (take-up e (isMessage (c .message)) {p = for-console.Packet p} refl u) reply refl
+        act-done c e read long (rules.ConsoleAct.take (some (toConsole p))) (c .message) (take-0 e (isMessage (c .message)) p u) reply refl
         (w ∙ ap (λ (d : Acted). consoleTells d (c .message) reply) q ∙ told (rules.console-acts numbering (end e) (rules.ConsoleAct.take (some (toConsole p)))) (c .message) reply)
         ∙ ap (consoleTakes c reply) (sym g ∙ f)
 
@@ -263,14 +297,14 @@ module _ {f : Found} (c : Console) (b : ℕ) (m packet reply : List ℕ) (finds 
     pub alone-ill : {x : ConsoleOutcome} → r ≡ IllFormed → x ≡ refusing 2 c → record { outcome = x; reply = reply } ≡ consoleAlone c b m packet reply
     unfolding if_then_else_
     alone-ill i h =
-        let no : consoleOk c ≡ false = sym (was-read-so c) ∙ ap consoleWasRead (sym reads ∙ i) in
+        let no : consoleOk c ≡ false = not-read c (sym reads ∙ i) in
         let two : consoleRefused 2 c reply ≡ consoleAsks c reply m packet (asksMeans (asked.Console a)) = rw no in
         (λ i. record { outcome = h i; reply = reply }) ∙ two ∙ by-asks g s
 
     pub alone-asked : {x : ConsoleAlone} {e : End} → r ≡ Is e → x ≡ consoleAsked c reply m packet (consoleAskMeans a) → x ≡ consoleAlone c b m packet reply
     unfolding if_then_else_
     alone-asked i h =
-        let yes : consoleOk c ≡ true = sym (was-read-so c) ∙ ap consoleWasRead (sym reads ∙ i) in
+        let yes : consoleOk c ≡ true = was-read c (sym reads ∙ i) .0 in
         let does : consoleAsked c reply m packet (consoleAskMeans a) ≡ consoleAsks c reply m packet (asksMeans (asked.Console a)) = rw yes in
         h ∙ does ∙ by-asks g s
 

@@ -10,7 +10,7 @@ use lib.Dec.{eqb}
 use borrow.Author.Tests.{eq-eqb, ne-eqb, eqb-true, eqb-false}
 use Rattle.ground.specs.Cell.{spaces}
 use Rattle.ground.specs.Choice.{if_then_else_}
-use Rattle.ground.specs.First.{first, refusal}
+use Rattle.ground.specs.First.{first, refusal, applies}
 use Rattle.ground.proofs.Tests.{by-test}
 use Rattle.wire.specs.Packet.{numbered, packetRead}
 use Rattle.wire.specs.declared.Head.{Head}
@@ -18,11 +18,11 @@ use Rattle.wire.specs.declared.ReadHead.{ReadHead}
 use Rattle.wire.specs.declared.ReadHead.the-variants as read-head
 use Rattle.wire.specs.declared.ReadPacket.{ReadPacket}
 use Rattle.wire.proofs.Outcomes.{packet-read, head-unrefused, read-numbered}
-use Rattle.protocol.specs.Supply.{numbering}
-use Rattle.protocol.specs.Letters.{Letter, line, letter, Asks, the-console, the-controller, neither-end}
-use Rattle.protocol.specs.Ends as rules
-use Rattle.protocol.specs.Relabel.{in-controller-act}
-use Rattle.protocol.proofs.Relabel.{nat-controller-acts}
+use Rattle.rules.specs.Supply.{numbering, Numbers}
+use Rattle.rules.specs.Letters.{Letter, line, letter, Asks, the-console, the-controller, neither-end}
+use Rattle.rules.specs.Ends as rules
+use Rattle.rules.specs.Relabel.{in-controller-act}
+use Rattle.rules.proofs.Relabel.{nat-controller-acts}
 use Rattle.letters.specs.Lines.{foundOf, controllerAskMeans, asksMeans}
 use Rattle.letters.proofs.Asking.{nothing-found, line-found}
 use Rattle.letters.specs.declared.ConsoleAsk.{ConsoleAsk}
@@ -33,57 +33,82 @@ use Rattle.letters.specs.declared.Asks.the-variants as asked
 use Rattle.letters.specs.declared.Line.{Line}
 use Rattle.letters.specs.declared.Found.{Found}
 use Rattle.letters.specs.declared.Found.the-variants as found
-use Rattle.ends.specs.Means.{toController, forController, forConsole, forConsoleBack}
-use Rattle.ends.specs.Controller.{mode, end, act, acted}
-use Rattle.ends.specs.Fields.{controllerWasRead, controllerOk, controllerRead, controllerEnd, controllerFields}
-use Rattle.ends.specs.InRules.{controllerBack, controllerActed, deliveredBeside}
+use Rattle.ends.specs.AsRules.{Beside, toController, forController, forConsole, forConsoleBack, deliveredBeside}
+use Rattle.ends_controller.specs.AsRules.{mode, end, acted}
+use Rattle.ends_controller.specs.Fields.{controllerOk, controllerRead, controllerEnd, controllerFields}
+use Rattle.ends_controller.specs.FieldsAsRules.{controllerBack, controllerActed}
 use Rattle.ends.specs.Packets.{toConsolePacket, toConsoleSent, headForController}
-use Rattle.ends.proofs.ControllerBeside.{refusalOf, step-done, step-refused}
-use Rattle.ends.proofs.ControllerFields.{was-read, was-read-so}
-use Rattle.ends.proofs.ControllerRefusals.{same-for-console, refuses-offer, refuses-ok, down-0, back-5, back-0}
-use Rattle.ends.proofs.Telling.{controller-unchanged}
+use Rattle.ends_controller.proofs.MessageBeside.{refusalOf, step-done, step-refused}
+use Rattle.ends_controller.proofs.FieldsRead.{was-read, not-read}
+use Rattle.ends_controller.proofs.Decisions.{same-for-console}
+use Rattle.ends_controller.proofs.FieldsAsRules.{unchanged}
 use Rattle.ends.specs.declared.ToController.{ToController}
 use Rattle.ends.specs.declared.ForController.{ForController}
 use Rattle.ends.specs.declared.ForController.the-variants as for-controller
 use Rattle.ends.specs.declared.ForConsole.{ForConsole}
-use Rattle.ends.specs.declared.controller.Acted.{Acted}
-use Rattle.ends.specs.declared.controller.End.{End}
-use Rattle.ends.specs.declared.controller.Act.{Act}
-use Rattle.ends.specs.declared.controller.Act.the-variants.{SendOffer, SendOk, Take, GoDown, ComeBack}
+use Rattle.ends_controller.specs.declared.Acted.{Acted}
+use Rattle.ends_controller.specs.declared.End.{End}
 use Rattle.ends.specs.declared.Report.{Report}
 use Rattle.ends.specs.declared.Report.the-variants as report
-use Rattle.ends.specs.declared.fields.Controller.{Controller}
-use Rattle.ends.specs.declared.fields.ControllerRead.{ControllerRead}
-use Rattle.ends.specs.declared.fields.ControllerRead.the-variants.{IllFormed, Is}
+use Rattle.ends_controller.specs.declared.fields.Controller.{Controller}
+use Rattle.ends_controller.specs.declared.fields.ControllerRead.{ControllerRead}
+use Rattle.ends_controller.specs.declared.fields.ControllerRead.the-variants.{IllFormed, Is}
 use Rattle.alone.specs.declared.controller.ControllerOutcome.{ControllerOutcome}
 use Rattle.alone.specs.Alone.{replied}
 use Rattle.alone.specs.ControllerAlone.{ControllerAlone, controllerRefused, controllerTold, controllerActs, controllerTakes, controllerHead, controllerHears, controllerLent, controllerAsked, controllerAsks, controllerLetter, controllerAlone}
-use Rattle.alone.specs.ControllerWithin.{controllerTells, controllerSends}
-use Rattle.alone.proofs.ControllerTold.{told, done-told}
+use Rattle.alone.specs.ControllerPrivate.{controllerTells, controllerSends}
+use Rattle.alone.proofs.ControllerOutcome.{told, done-told}
 
 -- what is told of a refusal
 abbrev refusing : ℕ → Controller → ControllerOutcome
 refusing n c = record { report = report.Refused n; message = spaces; sent = false; controller = c }
 
+-- ## Refusals that ask whether it is up, and what it would send
+
+module _ (e : End) where
+  abbrev refused-by : rules.ControllerAct Beside → ℕ
+  refused-by a = refusal (rules.controller-rules numbering (end e) a)
+
+  -- 4 and 6 of what the code would send
+  refuses-offer : {s : ForConsole} → s ≡ forConsoleBack (rules.offer-sent (mode (e .mode))) → first (rules.down-4 (e .up) ∷ rules.mode-6 (forConsole s) ∷ []) ≡ refused-by rules.send-offer
+  unfolding refusal first applies if_then_else_ rules.controller-rules
+  refuses-offer f = rw (f, same-for-console (rules.offer-sent (mode (e .mode))))
+
+  refuses-ok : {s : ForConsole} → s ≡ forConsoleBack (rules.ok-sent (mode (e .mode))) → first (rules.down-4 (e .up) ∷ rules.mode-6 (forConsole s) ∷ []) ≡ refused-by rules.send-ok
+  unfolding refusal first applies if_then_else_ rules.controller-rules
+  refuses-ok f = rw (f, same-for-console (rules.ok-sent (mode (e .mode))))
+
+  down-0 : 0 ≡ refused-by rules.ControllerAct.go-down
+  unfolding refusal first applies if_then_else_ rules.controller-rules
+  down-0 = refl
+
+  back-5 : e .up ≡ true → 5 ≡ refused-by rules.ControllerAct.come-back
+  unfolding refusal first applies if_then_else_ rules.controller-rules
+  back-5 u = rw u
+
+  back-0 : e .up ≡ false → 0 ≡ refused-by rules.ControllerAct.come-back
+  unfolding refusal first applies if_then_else_ rules.controller-rules
+  back-0 u = rw u
+
 -- ## An act of a controller that was read
 
-module _ {n : ℕ} (c : Controller) (e : End) (read : controllerRead c ≡ Is e) (a : Act) (m : List ℕ) (refuses : n ≡ refusalOf e a) where
-  number-is : n ≡ refusalOf (controllerEnd c) a
-  number-is = refuses ∙ ap (λ (x : End). refusalOf x a) (was-read c read .1)
+module _ {n : ℕ} (c : Controller) (e : End) (read : controllerRead c ≡ Is e) (a : rules.ControllerAct Beside) (m : List ℕ) (refuses : n ≡ refusalOf numbering (end e) a) where
+  number-is : n ≡ refusalOf numbering (end (controllerEnd c)) a
+  number-is = refuses ∙ ap (λ (x : End). refusalOf numbering (end x) a) (was-read c read .1)
 
-  act-refused : {x : ControllerOutcome} (reply : List ℕ) → (n ≡ 0 → ⊥) → x ≡ refusing n c → record { outcome = x; reply = reply } ≡ controllerActs c reply (in-controller-act (λ _. m) (act a))
+  act-refused : {x : ControllerOutcome} (reply : List ℕ) → (n ≡ 0 → ⊥) → x ≡ refusing n c → record { outcome = x; reply = reply } ≡ controllerActs c reply (in-controller-act (λ _. m) a)
   unfolding rules.absent controllerActs
   act-refused reply z h =
-      let same = sym (controller-unchanged c (was-read c read .0)) in
+      let same = sym (unchanged c (was-read c read .0)) in
       (λ i. record { outcome = h i; reply = reply })
       ∙ (λ i. record { outcome = record { report = report.Refused (number-is i); message = spaces; sent = false; controller = same i }; reply = reply })
-      ∙ ap (λ (d : rules.ControllerActed ℕ (List ℕ)). controllerTold d reply) (sym (step-refused (controllerEnd c) a m (λ q. z (number-is ∙ q))))
+      ∙ ap (λ (d : rules.ControllerActed Numbers (List ℕ)). controllerTold d reply) (sym (step-refused numbering (end (controllerEnd c)) a m (λ q. z (number-is ∙ q))))
 
-  act-done : {x : ControllerAlone} (reply : List ℕ) → n ≡ 0 → x ≡ controllerTold (controllerActed e a m) reply → x ≡ controllerActs c reply (in-controller-act (λ _. m) (act a))
+  act-done : {x : ControllerAlone} (reply : List ℕ) → n ≡ 0 → x ≡ controllerTold (controllerActed e a m) reply → x ≡ controllerActs c reply (in-controller-act (λ _. m) a)
   unfolding controllerActs
   act-done reply z h =
       h ∙ ap (λ (x : End). controllerTold (controllerActed x a m) reply) (was-read c read .1)
-      ∙ ap (λ (d : rules.ControllerActed ℕ (List ℕ)). controllerTold d reply) (sym (step-done (controllerEnd c) a m (sym number-is ∙ z)))
+      ∙ ap (λ (d : rules.ControllerActed Numbers (List ℕ)). controllerTold d reply) (sym (step-done numbering (end (controllerEnd c)) a m (sym number-is ∙ z)))
 
 -- the code's answers, put together
 pub done-so : {v : Controller} (d : Acted) → v ≡ controllerFields (d .after) → _≡_ {A = ControllerOutcome} (record { report = d .report; message = spaces; sent = false; controller = v }) (record { report = d .report; message = spaces; sent = false; controller = controllerFields (d .after) })
@@ -99,16 +124,16 @@ module _ {x : ControllerOutcome} (c : Controller) (e : End) (read : controllerRe
       → (reply : List ℕ) → record { outcome = x; reply = reply } ≡ controllerActs c reply rules.ControllerAct.go-down
   unfolding rules.controller-acts rules.controller-turn rules.end-after
   down-done f h reply =
-      act-done c e read GoDown spaces (down-0 e refl) reply refl (done-told (rules.controller-acts numbering (end e) rules.ControllerAct.go-down) spaces reply refl refl f h)
+      act-done c e read rules.ControllerAct.go-down spaces (down-0 e) reply refl (done-told (rules.controller-acts numbering (end e) rules.ControllerAct.go-down) spaces reply refl refl f h)
 
   pub back-refused : e .up ≡ true → x ≡ refusing 5 c → (reply : List ℕ) → record { outcome = x; reply = reply } ≡ controllerActs c reply rules.ControllerAct.come-back
-  back-refused u h reply = act-refused c e read ComeBack spaces (back-5 e refl u) reply (λ z. omega (arith, z)) h
+  back-refused u h reply = act-refused c e read rules.ControllerAct.come-back spaces (back-5 e u) reply (λ z. omega (arith, z)) h
 
   pub back-done : {d : Acted} → e .up ≡ false → d ≡ acted (rules.controller-acts numbering (end e) rules.ControllerAct.come-back) → x ≡ record { report = d .report; message = spaces; sent = false; controller = controllerFields (d .after) }
       → (reply : List ℕ) → record { outcome = x; reply = reply } ≡ controllerActs c reply rules.ControllerAct.come-back
   unfolding rules.controller-acts rules.controller-turn rules.end-after
   back-done u f h reply =
-      act-done c e read ComeBack spaces (back-0 e refl u) reply refl (done-told (rules.controller-acts numbering (end e) rules.ControllerAct.come-back) spaces reply refl refl f h)
+      act-done c e read rules.ControllerAct.come-back spaces (back-0 e u) reply refl (done-told (rules.controller-acts numbering (end e) rules.ControllerAct.come-back) spaces reply refl refl f h)
 
 -- ## O and K
 
@@ -134,7 +159,7 @@ module _ (c : Controller) (reply : List ℕ) where
         lent-so _ l ((λ i. record { outcome = record { report = report.Nothing; message = spaces; sent = f i; controller = c }; reply = g i }) ∙ rw (← refuses, z))
 
 -- an act that changes nothing, and sends o
-abbrev stays : End → Option rules.ToConsole → rules.ControllerActed ℕ (List ℕ)
+abbrev stays : End → Option rules.ToConsole → rules.ControllerActed Numbers (List ℕ)
 stays e o = record { report = rules.nothing; sent = o; after = end e }
 
 -- what they would send is what the rules' controller would
@@ -144,27 +169,27 @@ module _ {s : ForConsole} (c : Controller) (e : End) (reply : List ℕ) (read : 
   unfolding toConsoleSent
   stays-told o f =
       let sent = ap forConsole f ∙ same-for-console o in
-      let same = sym (ap (λ (x : End). controllerBack (end x)) (was-read c read .1) ∙ controller-unchanged c (was-read c read .0)) in
+      let same = sym (ap (λ (x : End). controllerBack (end x)) (was-read c read .1) ∙ unchanged c (was-read c read .0)) in
       λ i. record { outcome = record { report = report.Nothing; message = spaces; sent = not (rules.absent (sent i)); controller = same i }; reply = replied (Option·map toConsolePacket (sent i)) reply }
 
-  sends-so : (a : Act) (o : Option rules.ToConsole) → s ≡ forConsoleBack o → first (rules.down-4 (e .up) ∷ rules.mode-6 (forConsole s) ∷ []) ≡ refusalOf e a → controllerActed e a spaces ≡ stays e o
-      → controllerSends c (e .up) s reply ≡ controllerActs c reply (in-controller-act (λ _. spaces) (act a))
+  sends-so : (a : rules.ControllerAct Beside) (o : Option rules.ToConsole) → s ≡ forConsoleBack o → first (rules.down-4 (e .up) ∷ rules.mode-6 (forConsole s) ∷ []) ≡ refusalOf numbering (end e) a → controllerActed e a spaces ≡ stays e o
+      → controllerSends c (e .up) s reply ≡ controllerActs c reply (in-controller-act (λ _. spaces) a)
   unfolding controllerSends if_then_else_
   sends-so a o f r w =
       let n = first (rules.down-4 (e .up) ∷ rules.mode-6 (forConsole s) ∷ []) in
       by-test (eqb n 0)
-      (λ t. rw t (act-done c e read a spaces r reply (eqb-true n 0 t) (stays-told o f ∙ ap (λ (d : rules.ControllerActed ℕ (List ℕ)). controllerTold d reply) (sym w))))
+      (λ t. rw t (act-done c e read a spaces r reply (eqb-true n 0 t) (stays-told o f ∙ ap (λ (d : rules.ControllerActed Numbers (List ℕ)). controllerTold d reply) (sym w))))
       (λ t. rw t (act-refused c e read a spaces r reply (eqb-false n 0 t) refl))
 
   pub asked-offer : {x : ControllerAlone} → s ≡ forConsoleBack (rules.offer-sent (mode (e .mode))) → x ≡ controllerLent c reply (controllerSends c (e .up) s reply) → x ≡ controllerLent c reply (controllerActs c reply rules.send-offer)
   unfolding rules.controller-acts rules.controller-turn rules.end-after rules.numbers-after rules.up-after
   asked-offer f h =
-      h ∙ ap (controllerLent c reply) (sends-so SendOffer (rules.offer-sent (mode (e .mode))) f (refuses-offer e refl f refl) refl)
+      h ∙ ap (controllerLent c reply) (sends-so rules.send-offer (rules.offer-sent (mode (e .mode))) f (refuses-offer e f) refl)
 
   pub asked-ok : {x : ControllerAlone} → s ≡ forConsoleBack (rules.ok-sent (mode (e .mode))) → x ≡ controllerLent c reply (controllerSends c (e .up) s reply) → x ≡ controllerLent c reply (controllerActs c reply rules.send-ok)
   unfolding rules.controller-acts rules.controller-turn rules.end-after rules.numbers-after rules.up-after
   asked-ok f h =
-      h ∙ ap (controllerLent c reply) (sends-so SendOk (rules.ok-sent (mode (e .mode))) f (refuses-ok e refl f refl) refl)
+      h ∙ ap (controllerLent c reply) (sends-so rules.send-ok (rules.ok-sent (mode (e .mode))) f (refuses-ok e f) refl)
 
 -- ## R
 
@@ -175,15 +200,15 @@ module _ {came : ForController} (c : Controller) (e : End) (h : Head) (m reply :
   module _ {n : ℕ} {p : ToController} (g : came ≡ for-controller.Packet p) (refuses : n ≡ refusal (rules.controller-rules numbering (end e) (rules.ControllerAct.take (forController (for-controller.Packet p))))) where
     pub hears-refused : {x : ControllerOutcome} → (n ≡ 0 → ⊥) → x ≡ refusing n c → record { outcome = x; reply = reply } ≡ controllerTakes c reply m (headForController h)
     hears-refused z w =
-        act-refused c e read (Take (for-controller.Packet p)) m refuses reply z w ∙ ap (controllerTakes c reply m) (sym g ∙ f)
+        act-refused c e read (rules.ControllerAct.take (some (toController p))) m refuses reply z w ∙ ap (controllerTakes c reply m) (sym g ∙ f)
 
     pub hears-done : {x : ControllerAlone} {d : Acted} → n ≡ 0 → d ≡ acted (rules.controller-acts numbering (end e) (rules.ControllerAct.take (forController (for-controller.Packet p)))) → x ≡ controllerTells d m reply
         → x ≡ controllerTakes c reply m (headForController h)
     hears-done z q w =
         let a = rules.ControllerAct.take (some (toController p)) in
-        act-done c e read (Take (for-controller.Packet p)) m refuses reply z
+        act-done c e read a m refuses reply z
         (w ∙ ap (λ (d : Acted). controllerTells d m reply) q ∙ told (rules.controller-acts numbering (end e) a) m reply
-        ∙ ap (λ (d : rules.ControllerActed ℕ (List ℕ)). controllerTold d reply) (sym (nat-controller-acts (λ _. m) numbering (end e) a)))
+        ∙ ap (λ (d : rules.ControllerActed Numbers (List ℕ)). controllerTold d reply) (sym (nat-controller-acts (λ _. m) numbering (end e) a)))
         ∙ ap (controllerTakes c reply m) (sym g ∙ f)
 
 module _ {r : ReadHead} (c : Controller) (packet reply : List ℕ) (l : length reply ≡ 32) (e : r ≡ packetRead packet .head) where
@@ -250,14 +275,14 @@ module _ {f : Found} (c : Controller) (b : ℕ) (packet reply : List ℕ) (finds
     pub alone-ill : {x : ControllerOutcome} → r ≡ IllFormed → x ≡ refusing 2 c → record { outcome = x; reply = reply } ≡ controllerAlone c b packet reply
     unfolding if_then_else_
     alone-ill i h =
-        let no : controllerOk c ≡ false = sym (was-read-so c) ∙ ap controllerWasRead (sym reads ∙ i) in
+        let no : controllerOk c ≡ false = not-read c (sym reads ∙ i) in
         let two : controllerRefused 2 c reply ≡ controllerAsks c reply packet (asksMeans (asked.Controller a)) = rw no in
         (λ i. record { outcome = h i; reply = reply }) ∙ two ∙ by-asks g s
 
     pub alone-asked : {x : ControllerAlone} {e : End} → r ≡ Is e → x ≡ controllerAsked c reply packet (controllerAskMeans a) → x ≡ controllerAlone c b packet reply
     unfolding if_then_else_
     alone-asked i h =
-        let yes : controllerOk c ≡ true = sym (was-read-so c) ∙ ap controllerWasRead (sym reads ∙ i) in
+        let yes : controllerOk c ≡ true = was-read c (sym reads ∙ i) .0 in
         let does : controllerAsked c reply packet (controllerAskMeans a) ≡ controllerAsks c reply packet (asksMeans (asked.Controller a)) = rw yes in
         h ∙ does ∙ by-asks g s
 

@@ -3,19 +3,19 @@ use Prim.Native.Nat.{ℕ}
 use mathlib.Core.Path.{_≡_, refl, sym, _∙_}
 use mathlib.Core.Bool.{true, false}
 use mathlib.Core.List.{List}
-use native.Mathlib.Omega.{arith}
 use lib.ListN.{length}
-use borrow.Author.Tests.{le-leb}
 use Rattle.ground.specs.Cell.{spaces}
-use Rattle.ground.specs.Choice.{if_then_else_}
-use Rattle.ground.specs.Every.{filled}
-use Rattle.protocol.specs.Letters.{line, letters, among, letter}
-use Rattle.protocol.specs.Ends as rules
-use Rattle.ends.specs.Fields.{consoleOk, consoleMode, freshConsole, downedConsole, controllerOk, controllerMode, freshController, downedController}
-use Rattle.ends.proofs.Telling.{unchanged, controller-unchanged}
+use Rattle.rules.specs.Letters.{line, letters, among, letter}
+use Rattle.rules.specs.Ends as rules
+use Rattle.ends_console.specs.Fields.{consoleOk, consoleMode, lastUsedJ, freshConsole, downedConsole}
+use Rattle.ends_controller.specs.Fields.{controllerOk, controllerMode, lastUsedI, freshController, downedController}
+use Rattle.ends_console.proofs.FieldsAsRules as console
+use Rattle.ends_console.proofs.FieldsRead as console-read
+use Rattle.ends_controller.proofs.FieldsAsRules as controller
+use Rattle.ends_controller.proofs.FieldsRead as controller-read
 use Rattle.ends.specs.declared.Report.the-variants as report
-use Rattle.ends.specs.declared.fields.Console.{Console}
-use Rattle.ends.specs.declared.fields.Controller.{Controller}
+use Rattle.ends_console.specs.declared.fields.Console.{Console}
+use Rattle.ends_controller.specs.declared.fields.Controller.{Controller}
 use Rattle.alone.specs.ConsoleAlone.{ConsoleAlone, consoleActs, consoleAlone}
 use Rattle.alone.specs.ControllerAlone.{ControllerAlone, controllerActs, controllerAlone}
 
@@ -27,31 +27,30 @@ console-quiet c reply = record { outcome = record { report = report.Nothing; sen
 
 -- going down clears nothing
 abbrev console-off : Console → Console
-console-off c = record { used = c .used; held = c .held; message = c .message; j = c .j; last = c .last; up = false }
+console-off c = record { numbers = c .numbers; held = c .held; message = c .message; j = c .j; last = c .last; up = false }
 
 console-goes-down : (c : Console) → length (c .message) ≡ 16 → consoleOk c ≡ true → (m packet reply : List ℕ) → consoleAlone c 0x43 m packet reply ≡ console-quiet (console-off c) reply
 unfolding consoleAlone consoleActs consoleOk consoleMode rules.ends line letters among letter
-console-goes-down c long ok m packet reply = rw ok (λ i. console-quiet (unchanged (console-off c) long ok i) reply)
+console-goes-down c long ok m packet reply = rw ok (λ i. console-quiet (console.unchanged (console-off c) long ok i) reply)
 
-console-comes-back : (c : Console) → consoleOk c ≡ true → c .up ≡ false → (m packet reply : List ℕ) → consoleAlone c 0x56 m packet reply ≡ console-quiet (freshConsole (c .used)) reply
+console-comes-back : (c : Console) → consoleOk c ≡ true → c .up ≡ false → (m packet reply : List ℕ) → consoleAlone c 0x56 m packet reply ≡ console-quiet (freshConsole (lastUsedJ c)) reply
 unfolding consoleAlone consoleActs rules.ends line letters among letter
 console-comes-back c ok down m packet reply = rw (ok, down)
 
-downed-ok : (c : Console) → consoleOk (downedConsole (c .used)) ≡ true
-unfolding consoleOk filled if_then_else_
-downed-ok c = rw (le-leb 0 (c .used .0) (omega arith))
-
 module _ (c : Console) (ok : consoleOk c ≡ true) where
+  downed-ok : consoleOk (downedConsole (lastUsedJ c)) ≡ true
+  downed-ok = console-read.idle-ok (c .numbers) false (console-read.ok-sound c ok)
+
   -- of one that is down already
-  pub console-starts-as-down : c .up ≡ false → (m packet reply : List ℕ) → consoleAlone (downedConsole (c .used)) 0x56 m packet reply ≡ consoleAlone c 0x56 m packet reply
+  pub console-starts-as-down : c .up ≡ false → (m packet reply : List ℕ) → consoleAlone (downedConsole (lastUsedJ c)) 0x56 m packet reply ≡ consoleAlone c 0x56 m packet reply
   console-starts-as-down down m packet reply =
-      console-comes-back (downedConsole (c .used)) (downed-ok c) refl m packet reply ∙ sym (console-comes-back c ok down m packet reply)
+      console-comes-back (downedConsole (lastUsedJ c)) downed-ok refl m packet reply ∙ sym (console-comes-back c ok down m packet reply)
 
   -- of one that went down by C, whatever C was lent
-  pub console-starts-as-went-down : length (c .message) ≡ 16 → (m packet reply n came room : List ℕ) → consoleAlone (downedConsole (c .used)) 0x56 m packet reply ≡ consoleAlone (consoleAlone c 0x43 n came room .outcome .console) 0x56 m packet reply
+  pub console-starts-as-went-down : length (c .message) ≡ 16 → (m packet reply n came room : List ℕ) → consoleAlone (downedConsole (lastUsedJ c)) 0x56 m packet reply ≡ consoleAlone (consoleAlone c 0x43 n came room .outcome .console) 0x56 m packet reply
   unfolding consoleOk
   console-starts-as-went-down long m packet reply n came room =
-      console-comes-back (downedConsole (c .used)) (downed-ok c) refl m packet reply
+      console-comes-back (downedConsole (lastUsedJ c)) downed-ok refl m packet reply
       ∙ rw (console-goes-down c long ok n came room) (sym (console-comes-back (console-off c) ok refl m packet reply))
 
 -- ## The controller: X is 0x58, Y is 0x59
@@ -60,29 +59,28 @@ abbrev controller-quiet : Controller → List ℕ → ControllerAlone
 controller-quiet c reply = record { outcome = record { report = report.Nothing; message = spaces; sent = false; controller = c }; reply = reply }
 
 abbrev controller-off : Controller → Controller
-controller-off c = record { used = c .used; j = c .j; i = c .i; last = c .last; up = false }
+controller-off c = record { numbers = c .numbers; j = c .j; i = c .i; last = c .last; up = false }
 
 controller-goes-down : (c : Controller) → controllerOk c ≡ true → (packet reply : List ℕ) → controllerAlone c 0x58 packet reply ≡ controller-quiet (controller-off c) reply
 unfolding controllerAlone controllerActs controllerOk controllerMode rules.ends line letters among letter
-controller-goes-down c ok packet reply = rw ok (λ i. controller-quiet (controller-unchanged (controller-off c) ok i) reply)
+controller-goes-down c ok packet reply = rw ok (λ i. controller-quiet (controller.unchanged (controller-off c) ok i) reply)
 
-controller-comes-back : (c : Controller) → controllerOk c ≡ true → c .up ≡ false → (packet reply : List ℕ) → controllerAlone c 0x59 packet reply ≡ controller-quiet (freshController (c .used)) reply
+controller-comes-back : (c : Controller) → controllerOk c ≡ true → c .up ≡ false → (packet reply : List ℕ) → controllerAlone c 0x59 packet reply ≡ controller-quiet (freshController (lastUsedI c)) reply
 unfolding controllerAlone controllerActs rules.ends line letters among letter
 controller-comes-back c ok down packet reply = rw (ok, down)
 
-controller-downed-ok : (c : Controller) → controllerOk (downedController (c .used)) ≡ true
-unfolding controllerOk if_then_else_
-controller-downed-ok c = rw (le-leb 0 (c .used .0) (omega arith))
-
 module _ (c : Controller) (ok : controllerOk c ≡ true) where
+  controller-downed-ok : controllerOk (downedController (lastUsedI c)) ≡ true
+  controller-downed-ok = controller-read.idle-ok (c .numbers) false (controller-read.ok-sound c ok)
+
   -- of one that is down already
-  pub controller-starts-as-down : c .up ≡ false → (packet reply : List ℕ) → controllerAlone (downedController (c .used)) 0x59 packet reply ≡ controllerAlone c 0x59 packet reply
+  pub controller-starts-as-down : c .up ≡ false → (packet reply : List ℕ) → controllerAlone (downedController (lastUsedI c)) 0x59 packet reply ≡ controllerAlone c 0x59 packet reply
   controller-starts-as-down down packet reply =
-      controller-comes-back (downedController (c .used)) (controller-downed-ok c) refl packet reply ∙ sym (controller-comes-back c ok down packet reply)
+      controller-comes-back (downedController (lastUsedI c)) controller-downed-ok refl packet reply ∙ sym (controller-comes-back c ok down packet reply)
 
   -- of one that went down by X, whatever X was lent
-  pub controller-starts-as-went-down : (packet reply came room : List ℕ) → controllerAlone (downedController (c .used)) 0x59 packet reply ≡ controllerAlone (controllerAlone c 0x58 came room .outcome .controller) 0x59 packet reply
+  pub controller-starts-as-went-down : (packet reply came room : List ℕ) → controllerAlone (downedController (lastUsedI c)) 0x59 packet reply ≡ controllerAlone (controllerAlone c 0x58 came room .outcome .controller) 0x59 packet reply
   unfolding controllerOk
   controller-starts-as-went-down packet reply came room =
-      controller-comes-back (downedController (c .used)) (controller-downed-ok c) refl packet reply
+      controller-comes-back (downedController (lastUsedI c)) controller-downed-ok refl packet reply
       ∙ rw (controller-goes-down c ok came room) (sym (controller-comes-back (controller-off c) ok refl packet reply))

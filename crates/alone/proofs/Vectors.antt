@@ -10,17 +10,18 @@ use Rattle.wire.specs.Number.{bytesOf, value}
 use Rattle.wire.specs.Packet.{isBlank, packetBytes, headOf, headAt, readRefusal, packetRead}
 use Rattle.wire.specs.declared.Head.{Head}
 use Rattle.wire.specs.declared.Head.the-variants.{NeedI, Offer, Data, Ok, Lost, Done}
-use Rattle.protocol.specs.Supply.{next-counted}
-use Rattle.protocol.specs.Letters.{line, letters, among, letter}
-use Rattle.protocol.specs.Ends as rules
-use Rattle.ends.specs.Fields.{consoleOk, consoleMode, consoleWith, freshConsole, downedConsole}
-use Rattle.ends.specs.Fields.{controllerOk, controllerMode, controllerWith, freshController, downedController}
-use Rattle.ends.specs.declared.console.Mode.the-variants as mode
-use Rattle.ends.specs.declared.controller.Mode.the-variants.{Accept, Ack}
+use Rattle.rules.specs.Supply.{next-counted}
+use Rattle.rules.specs.Letters.{line, letters, among, letter}
+use Rattle.rules.specs.Ends as rules
+use Rattle.numbers.specs.Numbers.{numbersFresh}
+use Rattle.ends_console.specs.Fields.{consoleOk, consoleMode, consoleWith, freshConsole, downedConsole}
+use Rattle.ends_controller.specs.Fields.{controllerOk, controllerMode, controllerWith, freshController, downedController}
+use Rattle.ends_console.specs.declared.Mode.the-variants as mode
+use Rattle.ends_controller.specs.declared.Mode.the-variants.{Accept, Ack}
 use Rattle.ends.specs.declared.Report.{Report}
 use Rattle.ends.specs.declared.Report.the-variants as report
-use Rattle.ends.specs.declared.fields.Console.{Console}
-use Rattle.ends.specs.declared.fields.Controller.{Controller}
+use Rattle.ends_console.specs.declared.fields.Console.{Console}
+use Rattle.ends_controller.specs.declared.fields.Controller.{Controller}
 use Rattle.ends.specs.Packets.{zeros}
 use Rattle.alone.specs.ConsoleAlone.{ConsoleAlone, consoleActs, consoleLent, consoleAlone}
 use Rattle.alone.specs.ControllerAlone.{ControllerAlone, controllerActs, controllerLent, controllerAlone}
@@ -48,15 +49,15 @@ short = replicate 31 7
 
 -- last used I 3, which is offered
 abbrev pub accepting : Controller
-accepting = controllerWith (record { 0 = 3 }) (Accept (record { 0 = 1 }) (record { 0 = 3 })) true
+accepting = controllerWith (numbersFresh 3) (Accept (record { 0 = 1 }) (record { 0 = 3 })) true
 
 -- the order with I 3 is delivered
 abbrev acking : Controller
-acking = controllerWith (record { 0 = 3 }) (Ack (record { 0 = 3 })) true
+acking = controllerWith (numbersFresh 3) (Ack (record { 0 = 3 })) true
 
 -- the same, down: nothing is cleared
 abbrev acking-down : Controller
-acking-down = controllerWith (record { 0 = 3 }) (Ack (record { 0 = 3 })) false
+acking-down = controllerWith (numbersFresh 3) (Ack (record { 0 = 3 })) false
 
 -- nothing to report
 abbrev stays : Bool → List ℕ → Controller → ControllerAlone
@@ -127,7 +128,7 @@ unfolding opened
 stray-done = refl
 
 abbrev pub ill-formed : Controller
-ill-formed = record { used = record { 0 = 3 }; j = record { 0 = 1 }; i = record { 0 = 0 }; last = record { 0 = 0 }; up = true }
+ill-formed = record { numbers = numbersFresh 3; j = record { 0 = 1 }; i = record { 0 = 0 }; last = record { 0 = 0 }; up = true }
 
 abbrev tells : Controller × ℕ × List ℕ × List ℕ → Report
 tells a = alone a .outcome .report
@@ -154,15 +155,15 @@ refused = refl
 
 -- last used J 1, which is asked for
 abbrev needing : Console
-needing = consoleWith (record { 0 = 1 }) (mode.NeedI (record { 0 = 1 })) true start
+needing = consoleWith (numbersFresh 1) (mode.NeedI (record { 0 = 1 })) true start
 
 -- the order with I 3 is being sent
 abbrev pub sending : Console
-sending = consoleWith (record { 0 = 1 }) (mode.Send (record { 0 = 3 })) true start
+sending = consoleWith (numbersFresh 1) (mode.Send (record { 0 = 3 })) true start
 
 -- the same, down: nothing is cleared
 abbrev sending-down : Console
-sending-down = consoleWith (record { 0 = 1 }) (mode.Send (record { 0 = 3 })) false start
+sending-down = consoleWith (numbersFresh 1) (mode.Send (record { 0 = 3 })) false start
 
 -- nothing to report
 abbrev console-stays : Bool → List ℕ → Console → ConsoleAlone

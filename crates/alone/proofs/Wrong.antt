@@ -12,13 +12,15 @@ use denote.Triple.Clauses.{AtExit}
 use Rattle.ground.specs.Cell.{spaces}
 use Rattle.ground.proofs.Promise.{RulesOut, unequal}
 use Rattle.wire.specs.declared.Head.the-variants.{Data, Lost, Done}
-use Rattle.ends.specs.Fields.{freshConsole, consoleWith, freshController, downedController}
+use Rattle.numbers.specs.Numbers.{numbersFresh}
+use Rattle.ends_console.specs.Fields.{freshConsole, consoleWith}
+use Rattle.ends_controller.specs.Fields.{freshController, downedController}
 use Rattle.ends.specs.Packets.{zeros}
-use Rattle.ends.proofs.Telling.{number}
-use Rattle.ends.specs.declared.console.Mode.the-variants.{NeedI}
+use Rattle.ends.specs.AsRules.{numberIn}
+use Rattle.ends_console.specs.declared.Mode.the-variants.{NeedI}
 use Rattle.ends.specs.declared.Report.the-variants as report
-use Rattle.ends.specs.declared.fields.Console.{Console}
-use Rattle.ends.specs.declared.fields.Controller.{Controller}
+use Rattle.ends_console.specs.declared.fields.Console.{Console}
+use Rattle.ends_controller.specs.declared.fields.Controller.{Controller}
 use Rattle.alone.specs.declared.console.ConsoleOutcome.{ConsoleOutcome}
 use Rattle.alone.specs.declared.controller.ControllerOutcome.{ControllerOutcome}
 use Rattle.alone.specs.ConsoleAlone.{ConsoleAlone, consoleAlone}
@@ -38,7 +40,7 @@ no-ok e = let z : _≡_ {A = ℕ} 0 1 = cc in omega (arith, z)
 -- ## A console: P of 16 spaces, fresh
 
 abbrev putting : ConsoleOutcome
-putting = record { report = report.Nothing; sent = false; console = consoleWith (record { 0 = 1 }) (NeedI (record { 0 = 1 })) true spaces }
+putting = record { report = report.Nothing; sent = false; console = consoleWith (numbersFresh 1) (NeedI (record { 0 = 1 })) true spaces }
 
 put-told : (packet reply : List ℕ) → consoleAlone (freshConsole (record { 0 = 0 })) 0x50 spaces packet reply ≡ record { outcome = putting; reply = reply }
 unfolding opened
@@ -99,7 +101,7 @@ old-lost = packet (Lost (record { 0 = 2 })) zeros
 
 pub console-does-not-look-at-the-reply-buffer : RulesOut console-step-kinds.ps console-step-kinds.r console-step.Post (console-given sending 0x53 old-lost short) (λ κs a x s. x .report ≡ report.Nothing)
 unfolding opened
-console-does-not-look-at-the-reply-buffer κs a x s e w p = unequal (ap number (sym w ∙ console-says sending 0x53 old-lost short κs a x s e p)) refl
+console-does-not-look-at-the-reply-buffer κs a x s e w p = unequal (ap numberIn (sym w ∙ console-says sending 0x53 old-lost short κs a x s e p)) refl
 
 -- S of data
 abbrev some-data : List ℕ
@@ -107,15 +109,15 @@ some-data = packet (Data (record { 0 = 3 })) spaces
 
 pub console-says-13-of-the-other-direction : RulesOut console-step-kinds.ps console-step-kinds.r console-step.Post (console-given sending 0x53 some-data room) (λ κs a x s. x .report ≡ report.Refused 13)
 unfolding opened
-console-says-13-of-the-other-direction κs a x s e w p = unequal (ap number (sym w ∙ console-says sending 0x53 some-data room κs a x s e p)) refl
+console-says-13-of-the-other-direction κs a x s e w p = unequal (ap numberIn (sym w ∙ console-says sending 0x53 some-data room κs a x s e p)) refl
 
 -- a message held and neither j nor last, asked R
 abbrev no-console : Console
-no-console = record { used = record { 0 = 1 }; held = true; message = spaces; j = record { 0 = 0 }; last = record { 0 = 0 }; up = true }
+no-console = record { numbers = numbersFresh 1; held = true; message = spaces; j = record { 0 = 0 }; last = record { 0 = 0 }; up = true }
 
 pub console-says-2-before-1 : RulesOut console-step-kinds.ps console-step-kinds.r console-step.Post (console-given no-console 0x52 some-data room) (λ κs a x s. x .report ≡ report.Refused 2)
 unfolding opened
-console-says-2-before-1 κs a x s e w p = unequal (ap number (sym w ∙ console-says no-console 0x52 some-data room κs a x s e p)) refl
+console-says-2-before-1 κs a x s e w p = unequal (ap numberIn (sym w ∙ console-says no-console 0x52 some-data room κs a x s e p)) refl
 
 -- ## The same of a controller
 
@@ -132,14 +134,14 @@ old-done = packet (Done (record { 0 = 2 })) zeros
 
 pub controller-does-not-look-at-the-reply-buffer : RulesOut controller-step-kinds.ps controller-step-kinds.r controller-step.Post (controller-given accepting 0x52 old-done short) (λ κs a x s. x .report ≡ report.Nothing)
 unfolding opened
-controller-does-not-look-at-the-reply-buffer κs a x s e w p = unequal (ap number (sym w ∙ controller-says accepting 0x52 old-done short κs a x s e p)) refl
+controller-does-not-look-at-the-reply-buffer κs a x s e w p = unequal (ap numberIn (sym w ∙ controller-says accepting 0x52 old-done short κs a x s e p)) refl
 
 -- R of a lost
 pub controller-says-13-of-the-other-direction : RulesOut controller-step-kinds.ps controller-step-kinds.r controller-step.Post (controller-given accepting 0x52 old-lost room) (λ κs a x s. x .report ≡ report.Refused 13)
 unfolding opened
-controller-says-13-of-the-other-direction κs a x s e w p = unequal (ap number (sym w ∙ controller-says accepting 0x52 old-lost room κs a x s e p)) refl
+controller-says-13-of-the-other-direction κs a x s e w p = unequal (ap numberIn (sym w ∙ controller-says accepting 0x52 old-lost room κs a x s e p)) refl
 
 -- asked P
 pub controller-says-2-before-1 : RulesOut controller-step-kinds.ps controller-step-kinds.r controller-step.Post (controller-given ill-formed 0x50 old-done room) (λ κs a x s. x .report ≡ report.Refused 2)
 unfolding opened
-controller-says-2-before-1 κs a x s e w p = unequal (ap number (sym w ∙ controller-says ill-formed 0x50 old-done room κs a x s e p)) refl
+controller-says-2-before-1 κs a x s e w p = unequal (ap numberIn (sym w ∙ controller-says ill-formed 0x50 old-done room κs a x s e p)) refl

@@ -10,17 +10,17 @@ use Rattle.ground.specs.Choice.{if_then_else_}
 use Rattle.wire.specs.Packet.{packetRead}
 use Rattle.wire.specs.declared.ReadHead.{ReadHead}
 use Rattle.wire.specs.declared.ReadHead.the-variants as read-head
-use Rattle.protocol.specs.Supply.{numbering}
-use Rattle.protocol.specs.Letters.{Letter, line, letter, Asks, the-console, the-controller, neither-end, ConsoleAsk, to-put, to-send-needI, to-send-data}
-use Rattle.protocol.specs.Ends as rules
+use Rattle.rules.specs.Supply.{numbering, Numbers}
+use Rattle.rules.specs.Letters.{Letter, line, letter, Asks, the-console, the-controller, neither-end, ConsoleAsk, to-put, to-send-needI, to-send-data}
+use Rattle.rules.specs.Ends as rules
 use Rattle.ends.specs.Packets.{toControllerPacket, headForConsole}
-use Rattle.ends.specs.Means.{toConsole, reportBack}
-use Rattle.ends.specs.Fields.{consoleOk}
-use Rattle.ends.specs.InRules.{consoleMeans, consoleBack}
+use Rattle.ends.specs.AsRules.{toConsole, reportBack}
+use Rattle.ends_console.specs.Fields.{consoleOk}
+use Rattle.ends_console.specs.FieldsAsRules.{consoleMeans, consoleBack}
 use Rattle.ends.specs.declared.ForConsole.{ForConsole}
 use Rattle.ends.specs.declared.ForConsole.the-variants as for-console
 use Rattle.ends.specs.declared.Report.the-variants as report
-use Rattle.ends.specs.declared.fields.Console.{Console}
+use Rattle.ends_console.specs.declared.fields.Console.{Console}
 use Rattle.alone.specs.Alone.{replied}
 use Rattle.alone.specs.declared.console.ConsoleOutcome.{ConsoleOutcome}
 
@@ -32,7 +32,7 @@ pub record ConsoleAlone : Type 0 where
 abbrev pub consoleRefused : ℕ → Console → List ℕ → ConsoleAlone
 consoleRefused n c reply = record { outcome = record { report = report.Refused n; sent = false; console = c }; reply = reply }
 
-abbrev pub consoleTold : rules.ConsoleActed ℕ (List ℕ) → List ℕ → ConsoleAlone
+abbrev pub consoleTold : rules.ConsoleActed Numbers (List ℕ) → List ℕ → ConsoleAlone
 consoleTold d reply =
     record {
       outcome = record { report = reportBack (d .report); sent = not (rules.absent (d .sent)); console = consoleBack (d .after) };

@@ -11,18 +11,18 @@ use Rattle.wire.specs.Packet.{packetRead}
 use Rattle.wire.specs.declared.ReadHead.{ReadHead}
 use Rattle.wire.specs.declared.ReadHead.the-variants as read-head
 use Rattle.wire.specs.declared.ReadPacket.{ReadPacket}
-use Rattle.protocol.specs.Supply.{numbering}
-use Rattle.protocol.specs.Letters.{Letter, line, letter, Asks, the-console, the-controller, neither-end, ControllerAsk, to-send-offer, to-send-ok}
-use Rattle.protocol.specs.Ends as rules
-use Rattle.protocol.specs.Relabel.{in-packet}
+use Rattle.rules.specs.Supply.{numbering, Numbers}
+use Rattle.rules.specs.Letters.{Letter, line, letter, Asks, the-console, the-controller, neither-end, ControllerAsk, to-send-offer, to-send-ok}
+use Rattle.rules.specs.Ends as rules
+use Rattle.rules.specs.Relabel.{in-packet}
 use Rattle.ends.specs.Packets.{toConsolePacket, headForController}
-use Rattle.ends.specs.Means.{toController, reportBack}
-use Rattle.ends.specs.Fields.{controllerOk}
-use Rattle.ends.specs.InRules.{controllerMeans, controllerBack, delivered}
+use Rattle.ends.specs.AsRules.{toController, reportBack, delivered}
+use Rattle.ends_controller.specs.Fields.{controllerOk}
+use Rattle.ends_controller.specs.FieldsAsRules.{controllerMeans, controllerBack}
 use Rattle.ends.specs.declared.ForController.{ForController}
 use Rattle.ends.specs.declared.ForController.the-variants as for-controller
 use Rattle.ends.specs.declared.Report.the-variants as report
-use Rattle.ends.specs.declared.fields.Controller.{Controller}
+use Rattle.ends_controller.specs.declared.fields.Controller.{Controller}
 use Rattle.alone.specs.Alone.{replied}
 use Rattle.alone.specs.declared.controller.ControllerOutcome.{ControllerOutcome}
 
@@ -35,7 +35,7 @@ abbrev pub controllerRefused : ℕ → Controller → List ℕ → ControllerAlo
 controllerRefused n c reply =
     record { outcome = record { report = report.Refused n; message = spaces; sent = false; controller = c }; reply = reply }
 
-abbrev pub controllerTold : rules.ControllerActed ℕ (List ℕ) → List ℕ → ControllerAlone
+abbrev pub controllerTold : rules.ControllerActed Numbers (List ℕ) → List ℕ → ControllerAlone
 controllerTold d reply =
     record {
       outcome =

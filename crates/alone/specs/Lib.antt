@@ -1,5 +1,5 @@
 pub mod Alone
 pub mod ConsoleAlone
-pub mod ConsoleWithin
+pub mod ConsolePrivate
 pub mod ControllerAlone
-pub mod ControllerWithin
+pub mod ControllerPrivate

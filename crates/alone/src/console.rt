@@ -2,15 +2,18 @@
 use ends::ForConsole;
 use ends::ForController;
 use ends::Report;
-use ends::beside::for_console;
-use ends::beside::to_controller;
-use ends::console;
-use ends::console::Acted;
-use ends::console::End;
-use ends::fields::Console;
-use ends::fields::ConsoleRead;
-use ends::fields::console_of;
-use ends::fields::read_console;
+use ends::packets::for_console;
+use ends::packets::to_controller;
+use ends_console::Acted;
+use ends_console::End;
+use ends_console::acts;
+use ends_console::fields::Console;
+use ends_console::fields::ConsoleRead;
+use ends_console::fields::console_of;
+use ends_console::fields::read_console;
+use ends_console::refusals::send_refusal;
+use ends_console::turns::data_sent;
+use ends_console::turns::needi_sent;
 use letters::Asks;
 use letters::ConsoleAsk;
 use letters::Found;
@@ -22,14 +25,14 @@ ghost use mathlib.Core.List.{List};
 ghost use Prim.Native.Nat.{ℕ};
 ghost use lib.ListN.{length};
 ghost use Rattle.wire.specs.Packet.{numbered, packetRead};
-ghost use Rattle.protocol.specs.Ends.{absent, put, ConsoleAct};
+ghost use Rattle.rules.specs.Ends.{absent, put, ConsoleAct};
 ghost use Rattle.letters.specs.Lines.{consoleAskMeans};
-ghost use Rattle.ends.specs.Fields.{consoleRead, consoleFields};
-ghost use Rattle.ends.specs.Means.{forController};
+ghost use Rattle.ends_console.specs.Fields.{consoleRead, consoleFields};
+ghost use Rattle.ends.specs.AsRules.{forController};
 ghost use Rattle.ends.specs.Packets.{headForConsole, toControllerSent};
 ghost use Rattle.alone.specs.Alone.{Writable, replied};
 ghost use Rattle.alone.specs.ConsoleAlone.{consoleActs, consoleTakes, consoleHears, consoleLent, consoleAsked, consoleAlone};
-ghost use Rattle.alone.specs.ConsoleWithin.{consoleTells, consoleSends};
+ghost use Rattle.alone.specs.ConsolePrivate.{consoleTells, consoleSends};
 
 pub struct ConsoleOutcome {
     pub report: Report,
@@ -97,11 +100,11 @@ fn puts(c: Console, e: End, message: &[u8; 16]) -> ConsoleOutcome
     ensures { λ r. ⌜ ((reply : List ℕ) → record { outcome = r; reply = reply } ≡ consoleActs c reply (put (now (message .entry)))) ⌝ }
 {
     let good = ground::is_message(message);
-    let n = console::put_refusal(e, good);
+    let n = acts::put_refusal(e, good);
     if n != 0 {
         return refused(n, c);
     }
-    done(console::puts(e), *message)
+    done(acts::puts(e), *message)
 }
 
 // Q and D. They are lent the reply buffer, and change nothing of the console.
@@ -112,7 +115,7 @@ fn sends(c: Console, e: End, sent: ForController, reply: &mut [u8]) -> ConsoleOu
     if reply.len() != 32 {
         return refused(12, c);
     }
-    let n = console::send_refusal(e, sent);
+    let n = send_refusal(e.up, sent);
     if n != 0 {
         return refused(n, c);
     }
@@ -139,11 +142,7 @@ fn hears(c: Console, e: End, head: Head, reply: &mut [u8]) -> ConsoleOutcome
         ForConsole::Packet(p) => {
             if e.up {
                 let held = c.message;
-                replies(
-                    console::takes_what_came(e, ForConsole::Packet(p)),
-                    held,
-                    reply,
-                )
+                replies(acts::takes_what_came(e, ForConsole::Packet(p)), held, reply)
             } else {
                 refused(4, c)
             }
@@ -173,7 +172,7 @@ fn goes_down(c: Console, e: End) -> ConsoleOutcome
     ensures { λ r. ⌜ ((reply : List ℕ) → record { outcome = r; reply = reply } ≡ consoleActs c reply ConsoleAct.go-down) ⌝ }
 {
     let held = c.message;
-    done(console::goes_down(e), held)
+    done(acts::goes_down(e), held)
 }
 
 fn comes_back(c: Console, e: End) -> ConsoleOutcome
@@ -185,7 +184,7 @@ fn comes_back(c: Console, e: End) -> ConsoleOutcome
         return refused(5, c);
     }
     let held = c.message;
-    done(console::comes_back(e), held)
+    done(acts::comes_back(e), held)
 }
 
 // What a console's type says of its message; there is nothing to run.
@@ -209,8 +208,8 @@ fn does(
     let mode = e.mode;
     match ask {
         ConsoleAsk::Put => puts(c, e, message),
-        ConsoleAsk::SendNeedI => sends(c, e, console::needi_sent(mode), reply),
-        ConsoleAsk::SendData => sends(c, e, console::data_sent(mode), reply),
+        ConsoleAsk::SendNeedI => sends(c, e, needi_sent(mode), reply),
+        ConsoleAsk::SendData => sends(c, e, data_sent(mode), reply),
         ConsoleAsk::Take => takes(c, e, packet, reply),
         ConsoleAsk::GoDown => goes_down(c, e),
         ConsoleAsk::ComeBack => comes_back(c, e),

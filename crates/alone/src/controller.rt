@@ -2,15 +2,18 @@
 use ends::ForConsole;
 use ends::ForController;
 use ends::Report;
-use ends::beside::for_controller;
-use ends::beside::to_console;
-use ends::controller;
-use ends::controller::Acted;
-use ends::controller::End;
-use ends::fields::Controller;
-use ends::fields::ControllerRead;
-use ends::fields::controller_of;
-use ends::fields::read_controller;
+use ends::packets::for_controller;
+use ends::packets::to_console;
+use ends_controller::Acted;
+use ends_controller::End;
+use ends_controller::acts;
+use ends_controller::fields::Controller;
+use ends_controller::fields::ControllerRead;
+use ends_controller::fields::controller_of;
+use ends_controller::fields::read_controller;
+use ends_controller::refusals::send_refusal;
+use ends_controller::turns::offer_sent;
+use ends_controller::turns::ok_sent;
 use letters::Asks;
 use letters::ControllerAsk;
 use letters::Found;
@@ -23,15 +26,14 @@ ghost use Prim.Native.Nat.{ℕ};
 ghost use lib.ListN.{length, drop};
 ghost use Rattle.ground.specs.Cell.{spaces};
 ghost use Rattle.wire.specs.Packet.{numbered, packetRead};
-ghost use Rattle.protocol.specs.Ends.{absent, ControllerAct};
+ghost use Rattle.rules.specs.Ends.{absent, ControllerAct};
 ghost use Rattle.letters.specs.Lines.{controllerAskMeans};
-ghost use Rattle.ends.specs.Fields.{controllerRead, controllerFields};
-ghost use Rattle.ends.specs.InRules.{deliveredBeside};
-ghost use Rattle.ends.specs.Means.{forConsole};
+ghost use Rattle.ends_controller.specs.Fields.{controllerRead, controllerFields};
+ghost use Rattle.ends.specs.AsRules.{forConsole, deliveredBeside};
 ghost use Rattle.ends.specs.Packets.{headForController, toConsoleSent};
 ghost use Rattle.alone.specs.Alone.{Writable, replied};
 ghost use Rattle.alone.specs.ControllerAlone.{controllerActs, controllerTakes, controllerHears, controllerLent, controllerAsked, controllerAlone};
-ghost use Rattle.alone.specs.ControllerWithin.{controllerTells, controllerSends};
+ghost use Rattle.alone.specs.ControllerPrivate.{controllerTells, controllerSends};
 
 // The message is the delivered one, 16 spaces with any other report.
 pub struct ControllerOutcome {
@@ -132,7 +134,7 @@ fn sends(c: Controller, e: End, sent: ForConsole, reply: &mut [u8]) -> Controlle
     if reply.len() != 32 {
         return refused(12, c);
     }
-    let n = controller::send_refusal(e, sent);
+    let n = send_refusal(e.up, sent);
     if n != 0 {
         return refused(n, c);
     }
@@ -157,12 +159,12 @@ fn hears(c: Controller, e: End, head: Head, packet: &[u8], reply: &mut [u8]) -> 
     match came {
         ForController::Nothing => refused(15, c),
         ForController::Packet(p) => {
-            let n = controller::take_refusal(e, ForController::Packet(p));
+            let n = acts::take_refusal(e, ForController::Packet(p));
             if n != 0 {
                 return refused(n, c);
             }
             replies(
-                controller::takes_what_came(e, ForController::Packet(p)),
+                acts::takes_what_came(e, ForController::Packet(p)),
                 packet,
                 reply,
             )
@@ -189,7 +191,7 @@ fn goes_down(c: Controller, e: End) -> ControllerOutcome
     requires { ⌜ controllerRead c ≡ ControllerRead.Is e ⌝ }
     ensures { λ r. ⌜ ((reply : List ℕ) → record { outcome = r; reply = reply } ≡ controllerActs c reply ControllerAct.go-down) ⌝ }
 {
-    done(controller::goes_down(e))
+    done(acts::goes_down(e))
 }
 
 fn comes_back(c: Controller, e: End) -> ControllerOutcome
@@ -199,7 +201,7 @@ fn comes_back(c: Controller, e: End) -> ControllerOutcome
     if e.up {
         return refused(5, c);
     }
-    done(controller::comes_back(e))
+    done(acts::comes_back(e))
 }
 
 // What a well-formed controller is asked.
@@ -215,8 +217,8 @@ fn does(
 {
     let mode = e.mode;
     match ask {
-        ControllerAsk::SendOffer => sends(c, e, controller::offer_sent(mode), reply),
-        ControllerAsk::SendOk => sends(c, e, controller::ok_sent(mode), reply),
+        ControllerAsk::SendOffer => sends(c, e, offer_sent(mode), reply),
+        ControllerAsk::SendOk => sends(c, e, ok_sent(mode), reply),
         ControllerAsk::Take => takes(c, e, packet, reply),
         ControllerAsk::GoDown => goes_down(c, e),
         ControllerAsk::ComeBack => comes_back(c, e),

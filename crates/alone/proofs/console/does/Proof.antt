@@ -1,7 +1,7 @@
 -- `alone::console::does` meets its contract: by what is asked.
 use borrow.Author.Needs.{needs}
 use Rattle.alone.proofs.ConsoleAlone.{does-put, does-needI, does-data, does-take, does-down, does-back}
-use Rattle.alone.proofs.ConsoleReady.{needI-writable, data-writable}
+use Rattle.alone.proofs.ConsoleWritable.{needI-writable, data-writable}
 use Rattle.alone.proofs.console.does.Statement.{statement}
 use Rattle.alone.proofs.console.does.Tie as tie
 

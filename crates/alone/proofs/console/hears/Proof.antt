@@ -1,7 +1,7 @@
 -- `alone::console::hears` meets its contract: 15, then 4, then what the packet does.
 use borrow.Author.Needs.{needs}
 use Rattle.alone.proofs.ConsoleAlone.{hears-15, hears-4, hears-done}
-use Rattle.alone.proofs.ConsoleReady.{reply-writable}
+use Rattle.alone.proofs.ConsoleWritable.{reply-writable}
 use Rattle.alone.proofs.console.hears.Statement.{statement}
 use Rattle.alone.proofs.console.hears.Tie as tie
 

@@ -1,6 +1,6 @@
 -- `alone::console::replies` meets its contract: what was done, told, and the reply written.
 use borrow.Author.Needs.{needs}
-use Rattle.alone.proofs.ConsoleTold.{replies}
+use Rattle.alone.proofs.ConsoleOutcome.{replies}
 use Rattle.alone.proofs.console.replies.Statement.{statement}
 use Rattle.alone.proofs.console.replies.Tie as tie
 

@@ -1,9 +1,9 @@
 -- `alone::console::send` meets its contract: what can be written is written.
 use borrow.Author.Needs.{needs}
 use mathlib.Core.Path.{refl}
-use Rattle.protocol.specs.Ends.{absent}
+use Rattle.rules.specs.Ends.{absent}
 use Rattle.ends.specs.Packets.{toControllerSent}
-use Rattle.alone.proofs.ConsoleTold.{written-to-controller}
+use Rattle.alone.proofs.ConsoleOutcome.{sent-one, written-to-controller}
 use Rattle.alone.proofs.console.send.Statement.{statement}
 use Rattle.alone.proofs.console.send.Tie as tie
 
@@ -18,4 +18,4 @@ send-spec =
     (λ c κs. search needs)
     (λ c. rw (c .enum-told .given .1) (refl, refl))
     (λ c. search needs)
-    (λ c. (rw (c .before .before .before .before .before .before .sent .given .1), search written-to-controller)))
+    (λ c. (search sent-one, search written-to-controller)))

@@ -1,7 +1,7 @@
 -- `alone::console::sends` meets its contract: 12, then 4 and 6, then what is sent is written.
 use borrow.Author.Needs.{needs}
 use Rattle.alone.proofs.ConsoleAlone.{lent-12, sends-refused, sends-done}
-use Rattle.alone.proofs.Told.{lent-writable}
+use Rattle.alone.proofs.ReplyWritten.{lent-writable}
 use Rattle.alone.proofs.console.sends.Statement.{statement}
 use Rattle.alone.proofs.console.sends.Tie as tie
 

@@ -1,7 +1,7 @@
 -- `alone::controller::does` meets its contract: by what is asked.
 use borrow.Author.Needs.{needs}
 use Rattle.alone.proofs.ControllerAlone.{does-offer, does-ok, does-take, does-down, does-back}
-use Rattle.alone.proofs.ControllerReady.{offer-writable, ok-writable}
+use Rattle.alone.proofs.ControllerWritable.{offer-writable, ok-writable}
 use Rattle.alone.proofs.controller.does.Statement.{statement}
 use Rattle.alone.proofs.controller.does.Tie as tie
 

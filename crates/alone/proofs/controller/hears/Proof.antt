@@ -1,7 +1,7 @@
 -- `alone::controller::hears` meets its contract: 15, then 4 and 7, then what the packet does.
 use borrow.Author.Needs.{needs}
 use Rattle.alone.proofs.ControllerAlone.{hears-15, hears-refused, hears-done}
-use Rattle.alone.proofs.ControllerReady.{reply-writable}
+use Rattle.alone.proofs.ControllerWritable.{reply-writable}
 use Rattle.alone.proofs.controller.hears.Statement.{statement}
 use Rattle.alone.proofs.controller.hears.Tie as tie
 

@@ -1,6 +1,6 @@
 -- `alone::controller::replies` meets its contract: what was done, told, and the reply written.
 use borrow.Author.Needs.{needs}
-use Rattle.alone.proofs.ControllerTold.{replies}
+use Rattle.alone.proofs.ControllerOutcome.{replies}
 use Rattle.alone.proofs.controller.replies.Statement.{statement}
 use Rattle.alone.proofs.controller.replies.Tie as tie
 

@@ -1,9 +1,9 @@
 -- `alone::controller::send` meets its contract: what can be written is written.
 use borrow.Author.Needs.{needs}
 use mathlib.Core.Path.{refl}
-use Rattle.protocol.specs.Ends.{absent}
+use Rattle.rules.specs.Ends.{absent}
 use Rattle.ends.specs.Packets.{toConsoleSent}
-use Rattle.alone.proofs.ControllerTold.{written-to-console}
+use Rattle.alone.proofs.ControllerOutcome.{sent-one, written-to-console}
 use Rattle.alone.proofs.controller.send.Statement.{statement}
 use Rattle.alone.proofs.controller.send.Tie as tie
 
@@ -18,4 +18,4 @@ send-spec =
     (λ c κs. search needs)
     (λ c. rw (c .enum-told .given .1) (refl, refl))
     (λ c. search needs)
-    (λ c. (rw (c .before .before .before .before .before .before .sent .given .1), search written-to-console)))
+    (λ c. (search sent-one, search written-to-console)))

@@ -1,5 +1,5 @@
 -- What a well-formed console sends can be written.
-use Prim.Native.Nat.{ℕ, _≤_, _<_}
+use Prim.Native.Nat.{ℕ, _<_}
 use mathlib.Core.Path.{_≡_, refl, sym, ap, _∙_, subst}
 use mathlib.Core.Bool.{Bool, true}
 use mathlib.Core.Option.{Option, none, some, Option·map}
@@ -15,33 +15,35 @@ use Rattle.wire.specs.declared.I.{I}
 use Rattle.wire.specs.declared.Head.{Head}
 use Rattle.wire.specs.declared.Head.the-variants as head
 use Rattle.wire.specs.Packet.{numbered, writeRefusal}
-use Rattle.wire.proofs.Fitting.{needI-fits, data-fits, done-fits, first-above, second-above}
-use Rattle.protocol.specs.Supply.{numbering}
-use Rattle.protocol.specs.Lists.{Opt}
-use Rattle.protocol.specs.Bears.{Console-bears, ToController-bears, ToConsole-bears}
-use Rattle.protocol.specs.Ends as rules
-use Rattle.protocol.specs.Relabel.{in-packet, in-console, in-console-act}
-use Rattle.protocol.proofs.Lists.{if-holds}
-use Rattle.protocol.proofs.Relabel.{nat-console-acts}
-use Rattle.ends.specs.Means.{Beside, toConsole, forConsole, forController, forControllerBack}
-use Rattle.ends.specs.Console.{mode, end, acted}
-use Rattle.ends.specs.Fields.{consoleOk, consoleRead, consoleMode, consoleWith}
-use Rattle.ends.specs.InRules.{consoleMeans}
+use Rattle.wire.proofs.PacketsFit.{needI-fits, data-fits, done-fits, first-above, second-above}
+use Rattle.rules.specs.Supply as supply
+use Rattle.rules.specs.Supply.{numbering}
+use Rattle.rules.specs.Lists.{Opt}
+use Rattle.rules.specs.Bears.{Console-bears, ToController-bears, ToConsole-bears}
+use Rattle.rules.specs.Ends as rules
+use Rattle.rules.specs.Relabel.{in-packet, in-console, in-console-act}
+use Rattle.rules.proofs.Lists.{if-holds}
+use Rattle.rules.proofs.Relabel.{nat-console-acts}
+use Rattle.numbers.specs.declared.Numbers.{Numbers}
+use Rattle.ends.specs.AsRules.{Beside, toConsole, forConsole, forController, forControllerBack}
+use Rattle.ends_console.specs.AsRules.{mode, end, acted}
+use Rattle.ends_console.specs.Fields.{consoleOk, consoleRead, consoleMode, consoleWith}
+use Rattle.ends_console.specs.FieldsAsRules.{consoleMeans}
 use Rattle.ends.specs.Packets.{toControllerPacket, toControllerSent, headForConsole}
-use Rattle.ends.proofs.ConsoleFields.{by-mode, was-read}
-use Rattle.ends.proofs.ConsoleRefusals.{same-for-controller}
+use Rattle.ends_console.proofs.FieldsRead.{Sound, its-own, by-mode, was-read}
+use Rattle.ends_console.proofs.Decisions.{same-for-controller}
 use Rattle.ends.specs.declared.ToConsole.{ToConsole}
 use Rattle.ends.specs.declared.ToConsole.the-variants as down
 use Rattle.ends.specs.declared.ForConsole.{ForConsole}
 use Rattle.ends.specs.declared.ForConsole.the-variants as for-console
 use Rattle.ends.specs.declared.ForController.{ForController}
-use Rattle.ends.specs.declared.console.Acted.{Acted}
-use Rattle.ends.specs.declared.console.End.{End}
-use Rattle.ends.specs.declared.console.Mode.the-variants.{Idle, NeedI, Send}
-use Rattle.ends.specs.declared.fields.Console.{Console}
-use Rattle.ends.specs.declared.fields.ConsoleRead.the-variants.{Is}
+use Rattle.ends_console.specs.declared.Acted.{Acted}
+use Rattle.ends_console.specs.declared.End.{End}
+use Rattle.ends_console.specs.declared.Mode.the-variants.{Idle, NeedI, Send}
+use Rattle.ends_console.specs.declared.fields.Console.{Console}
+use Rattle.ends_console.specs.declared.fields.ConsoleRead.the-variants.{Is}
 use Rattle.alone.specs.Alone.{Writable, Above}
-use Rattle.alone.proofs.Told.{fitting}
+use Rattle.alone.proofs.ReplyWritten.{fitting}
 
 -- ## What a well-formed console's mode bears
 
@@ -51,17 +53,17 @@ Bears k = Console-bears Above Above (λ m. isMessage m ≡ true) k
 abbrev Meant : Console → Type 0
 Meant c = Bears (consoleMeans c .mode)
 
-idle-meant : (u : J) (up : Bool) → Meant (consoleWith u Idle up spaces)
+idle-meant : (u : Numbers) (up : Bool) → Sound u → Meant (consoleWith u Idle up spaces)
 unfolding consoleMode if_then_else_
-idle-meant u up = tt
+idle-meant u up s = tt
 
-need-meant : (u j : J) (up : Bool) (m : List ℕ) → 0 < j .0 → j .0 ≤ u .0 → isMessage m ≡ true → Meant (consoleWith u (NeedI j) up m)
+need-meant : (u : Numbers) (j : J) (up : Bool) (m : List ℕ) → Sound u → 0 < j .0 → its-own u j ≡ true → isMessage m ≡ true → Meant (consoleWith u (NeedI j) up m)
 unfolding consoleMode if_then_else_
-need-meant u j up m h l g = rw (ne-eqb (j .0) 0 (omega arith)) (h, g)
+need-meant u j up m s h l g = rw (ne-eqb (j .0) 0 (omega arith)) (h, g)
 
-send-meant : (u : J) (l : I) (up : Bool) (m : List ℕ) → 0 < l .0 → isMessage m ≡ true → Meant (consoleWith u (Send l) up m)
+send-meant : (u : Numbers) (l : I) (up : Bool) (m : List ℕ) → Sound u → 0 < l .0 → isMessage m ≡ true → Meant (consoleWith u (Send l) up m)
 unfolding consoleMode if_then_else_
-send-meant u l up m h g = (h, g)
+send-meant u l up m s h g = (h, g)
 
 meant : (c : Console) → length (c .message) ≡ 16 → consoleOk c ≡ true → Meant c
 meant c long ok = by-mode Meant idle-meant need-meant send-meant c long ok
@@ -138,7 +140,7 @@ module _ (c : Console) (e : End) (read : consoleRead c ≡ Is e) (long : length 
       let k = c .message in
       let o = rules.console-acts numbering (end e) a .sent in
       let there : Option·map (in-packet (λ _. k)) o ≡ rules.console-acts numbering (consoleMeans c) (in-console-act (λ _. k) a) .sent =
-      ap (λ (d : rules.ConsoleActed ℕ (List ℕ)). d .sent) (sym (nat-console-acts (λ _. k) numbering (end e) a))
+      ap (λ (d : rules.ConsoleActed supply.Numbers (List ℕ)). d .sent) (sym (nat-console-acts (λ _. k) numbering (end e) a))
       ∙ ap (λ (x : End). rules.console-acts numbering (in-console (λ _. k) (end x)) (in-console-act (λ _. k) a) .sent) (was-read c read .1) in
       let same = ap (λ (x : ForController). Option·map (in-packet (λ _. k)) (forController x)) f ∙ ap (Option·map (in-packet (λ _. k))) (same-for-controller o) ∙ there in
       subst (λ (x : Option (rules.ToController (List ℕ))). Writable (Option·map toControllerPacket x) n) (sym same) (sent-fits (rules.console-acts numbering (consoleMeans c) (in-console-act (λ _. k) a) .sent) n l h)

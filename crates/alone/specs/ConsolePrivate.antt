@@ -5,14 +5,14 @@ use mathlib.Core.List.{List, [], _∷_}
 use lib.Dec.{eqb}
 use Rattle.ground.specs.Choice.{if_then_else_}
 use Rattle.ground.specs.First.{first}
-use Rattle.protocol.specs.Ends.{absent, down-4, mode-6}
-use Rattle.ends.specs.Fields.{consoleFields}
-use Rattle.ends.specs.Means.{forController}
+use Rattle.rules.specs.Ends.{absent, down-4, mode-6}
+use Rattle.ends_console.specs.Fields.{consoleFields}
+use Rattle.ends.specs.AsRules.{forController}
 use Rattle.ends.specs.Packets.{toControllerSent}
 use Rattle.ends.specs.declared.ForController.{ForController}
 use Rattle.ends.specs.declared.Report.the-variants as report
-use Rattle.ends.specs.declared.console.Acted.{Acted}
-use Rattle.ends.specs.declared.fields.Console.{Console}
+use Rattle.ends_console.specs.declared.Acted.{Acted}
+use Rattle.ends_console.specs.declared.fields.Console.{Console}
 use Rattle.alone.specs.Alone.{replied}
 use Rattle.alone.specs.ConsoleAlone.{ConsoleAlone, consoleRefused}
 

@@ -1,4 +1,4 @@
--- What both ends tell: a packet that can be written, and the report.
+-- The reply of either end: a packet as its line says can be written to 32 bytes, and what can be written is written.
 use Prim.Native.Nat.{ℕ}
 use mathlib.Core.Path.{_≡_, sym, _∙_, subst}
 use mathlib.Core.Bool.{true}

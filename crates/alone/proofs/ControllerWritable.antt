@@ -12,31 +12,33 @@ use Rattle.wire.specs.declared.I.{I}
 use Rattle.wire.specs.declared.Head.{Head}
 use Rattle.wire.specs.declared.Head.the-variants as head
 use Rattle.wire.specs.Packet.{numbered, writeRefusal}
-use Rattle.wire.proofs.Fitting.{offer-fits, ok-fits, lost-fits, first-above}
-use Rattle.protocol.specs.Supply.{numbering, next-counted}
-use Rattle.protocol.specs.Lists.{Opt}
-use Rattle.protocol.specs.Bears.{Controller-bears, ToController-bears, ToConsole-bears, Any}
-use Rattle.protocol.specs.Ends as rules
-use Rattle.protocol.proofs.Lists.{if-holds}
-use Rattle.ends.specs.Means.{Beside, toController, forController, forConsole, forConsoleBack}
-use Rattle.ends.specs.Controller.{mode, end, acted}
-use Rattle.ends.specs.Fields.{controllerOk, controllerRead, controllerMode, controllerWith}
-use Rattle.ends.specs.InRules.{controllerMeans}
+use Rattle.wire.proofs.PacketsFit.{offer-fits, ok-fits, lost-fits, first-above}
+use Rattle.rules.specs.Supply.{numbering}
+use Rattle.rules.specs.Lists.{Opt}
+use Rattle.rules.specs.Bears.{Controller-bears, ToController-bears, ToConsole-bears, Any}
+use Rattle.rules.specs.Ends as rules
+use Rattle.rules.proofs.Lists.{if-holds}
+use Rattle.numbers.specs.Numbers.{numbersMeans}
+use Rattle.numbers.specs.declared.Numbers.{Numbers}
+use Rattle.ends.specs.AsRules.{Beside, toController, forController, forConsole, forConsoleBack}
+use Rattle.ends_controller.specs.AsRules.{mode, end, acted}
+use Rattle.ends_controller.specs.Fields.{controllerOk, controllerRead, controllerMode, controllerWith}
+use Rattle.ends_controller.specs.FieldsAsRules.{controllerMeans}
 use Rattle.ends.specs.Packets.{toConsolePacket, toConsoleSent, headForController}
-use Rattle.ends.proofs.ControllerFields.{by-mode, was-read}
-use Rattle.ends.proofs.ControllerRefusals.{same-for-console}
+use Rattle.ends_controller.proofs.FieldsRead.{Sound, its-own, by-mode, was-read}
+use Rattle.ends_controller.proofs.Decisions.{same-for-console}
 use Rattle.ends.specs.declared.ToController.{ToController}
 use Rattle.ends.specs.declared.ToController.the-variants as up
 use Rattle.ends.specs.declared.ForController.{ForController}
 use Rattle.ends.specs.declared.ForController.the-variants as for-controller
 use Rattle.ends.specs.declared.ForConsole.{ForConsole}
-use Rattle.ends.specs.declared.controller.Acted.{Acted}
-use Rattle.ends.specs.declared.controller.End.{End}
-use Rattle.ends.specs.declared.controller.Mode.the-variants.{Idle, Accept, Ack}
-use Rattle.ends.specs.declared.fields.Controller.{Controller}
-use Rattle.ends.specs.declared.fields.ControllerRead.the-variants.{Is}
+use Rattle.ends_controller.specs.declared.Acted.{Acted}
+use Rattle.ends_controller.specs.declared.End.{End}
+use Rattle.ends_controller.specs.declared.Mode.the-variants.{Idle, Accept, Ack}
+use Rattle.ends_controller.specs.declared.fields.Controller.{Controller}
+use Rattle.ends_controller.specs.declared.fields.ControllerRead.the-variants.{Is}
 use Rattle.alone.specs.Alone.{Writable, Above}
-use Rattle.alone.proofs.Told.{fitting}
+use Rattle.alone.proofs.ReplyWritten.{fitting}
 
 -- ## What a well-formed controller's mode bears
 
@@ -46,17 +48,17 @@ Bears k = Controller-bears Above Above k
 abbrev Meant : Controller → Type 0
 Meant c = Bears (controllerMeans c .mode)
 
-idle-meant : (u : I) (up : Bool) → Meant (controllerWith u Idle up)
+idle-meant : (u : Numbers) (up : Bool) → Sound u → Meant (controllerWith u Idle up)
 unfolding controllerMode if_then_else_
-idle-meant u up = tt
+idle-meant u up s = tt
 
-accept-meant : (u : I) (j : J) (i : I) (up : Bool) → 0 < j .0 → 0 < i .0 → Meant (controllerWith u (Accept j i) up)
+accept-meant : (u : Numbers) (j : J) (i : I) (up : Bool) → Sound u → 0 < j .0 → 0 < i .0 → its-own u i ≡ true → Meant (controllerWith u (Accept j i) up)
 unfolding controllerMode if_then_else_
-accept-meant u j i up h k = rw (ne-eqb (i .0) 0 (omega arith)) (h, k)
+accept-meant u j i up s h k o = rw (ne-eqb (i .0) 0 (omega arith)) (h, k)
 
-ack-meant : (u l : I) (up : Bool) → 0 < l .0 → Meant (controllerWith u (Ack l) up)
+ack-meant : (u : Numbers) (l : I) (up : Bool) → Sound u → 0 < l .0 → its-own u l ≡ true → Meant (controllerWith u (Ack l) up)
 unfolding controllerMode if_then_else_
-ack-meant u l up h = rw (ne-eqb (l .0) 0 (omega arith)) h
+ack-meant u l up s h o = rw (ne-eqb (l .0) 0 (omega arith)) h
 
 meant : (c : Controller) → controllerOk c ≡ true → Meant c
 meant c ok = by-mode Meant idle-meant accept-meant ack-meant c ok
@@ -144,5 +146,5 @@ pub reply-writable : {d : Acted} {came : ForController} {p : ToController} (c : 
     → d ≡ acted (rules.controller-acts numbering (end e) (rules.ControllerAct.take (forController (for-controller.Packet p)))) → Writable (toConsoleSent (d .sent)) n
 unfolding rules.controller-acts rules.controller-turn
 reply-writable {p = p} c e h n read g l f q w =
-    as-sent c e read (rules.controller-takes (next-counted (e .used .0)) (mode (e .mode)) (toController p) .sent) n (ap (λ (x : Acted). x .sent) w) l
-    (reply-ok (next-counted (e .used .0)) (mode (e .mode)) (toController p) (borne h p g (sym f ∙ q)))
+    as-sent c e read (rules.controller-takes (numbering .next (numbersMeans (e .numbers))) (mode (e .mode)) (toController p) .sent) n (ap (λ (x : Acted). x .sent) w) l
+    (reply-ok (numbering .next (numbersMeans (e .numbers))) (mode (e .mode)) (toController p) (borne h p g (sym f ∙ q)))

@@ -1,32 +1,37 @@
 -- What the code tells of a controller's act is what the rules' act is told as.
 use Prim.Native.Nat.{ℕ}
 use mathlib.Core.Path.{_≡_, sym, ap, _∙_}
-use mathlib.Core.Bool.{Bool, false, not}
+use mathlib.Core.Bool.{Bool, true, false, not}
 use mathlib.Core.Option.{none, Option·map}
 use mathlib.Core.List.{List}
 use lib.ListN.{length}
 use Rattle.ground.specs.Cell.{spaces}
 use Rattle.wire.specs.Packet.{packetWritten}
 use Rattle.wire.specs.declared.Packet.{Packet}
-use Rattle.protocol.specs.Ends as rules
-use Rattle.protocol.specs.Relabel.{in-controller-acted}
-use Rattle.ends.specs.Means.{Beside, toConsole, forConsole, forConsoleBack, reportBack}
-use Rattle.ends.specs.Controller.{acted}
-use Rattle.ends.specs.Fields.{controllerFields}
-use Rattle.ends.specs.InRules.{deliveredBeside}
+use Rattle.rules.specs.Supply.{Numbers}
+use Rattle.rules.specs.Ends as rules
+use Rattle.rules.specs.Relabel.{in-controller-acted}
+use Rattle.ends.specs.AsRules.{Beside, toConsole, forConsole, forConsoleBack, reportBack, deliveredBeside}
+use Rattle.ends_controller.specs.AsRules.{acted}
+use Rattle.ends_controller.specs.Fields.{controllerFields}
 use Rattle.ends.specs.Packets.{toConsolePacket, toConsoleSent}
-use Rattle.ends.proofs.ControllerRefusals.{same-for-console}
-use Rattle.ends.proofs.Telling.{report-told, delivered-told}
+use Rattle.ends_controller.proofs.Decisions.{same-for-console}
+use Rattle.ends.proofs.Reports.{report-told, delivered-told}
 use Rattle.ends.specs.declared.ToConsole.{ToConsole}
 use Rattle.ends.specs.declared.ForConsole.{ForConsole}
 use Rattle.ends.specs.declared.ForConsole.the-variants as for-console
-use Rattle.ends.specs.declared.controller.Acted.{Acted}
-use Rattle.ends.specs.declared.fields.Controller.{Controller}
+use Rattle.ends_controller.specs.declared.Acted.{Acted}
+use Rattle.ends_controller.specs.declared.fields.Controller.{Controller}
 use Rattle.alone.specs.Alone.{Writable, replied}
 use Rattle.alone.specs.ControllerAlone.{controllerTold}
-use Rattle.alone.specs.ControllerWithin.{controllerTells}
+use Rattle.alone.specs.ControllerPrivate.{controllerTells}
 use Rattle.alone.specs.declared.controller.ControllerOutcome.{ControllerOutcome}
-use Rattle.alone.proofs.Told.{written}
+use Rattle.alone.proofs.ReplyWritten.{written}
+
+-- something is sent
+pub sent-one : {s : ForConsole} {p : ToConsole} → s ≡ for-console.Packet p → true ≡ not (rules.absent (forConsole s))
+unfolding rules.absent
+sent-one f = rw f
 
 -- what is sent to the console and can be written is written
 pub written-to-console : {x : List ℕ} {s : ForConsole} {p : ToConsole} {q : Packet} (out : List ℕ) → s ≡ for-console.Packet p → q ≡ toConsolePacket (toConsole p) → Writable (toConsoleSent s) (length out) → x ≡ packetWritten out q → x ≡ replied (toConsoleSent s) out
@@ -34,7 +39,7 @@ unfolding toConsoleSent
 written-to-console out f g w e = rw f (written out _ (rw f at w) (rw g at e))
 
 -- the acts of the rules at messages of one value, told with the message k beside them
-pub told : (d : rules.ControllerActed ℕ Beside) (k reply : List ℕ) → controllerTells (acted d) k reply ≡ controllerTold (in-controller-acted (λ _. k) d) reply
+pub told : (d : rules.ControllerActed Numbers Beside) (k reply : List ℕ) → controllerTells (acted d) k reply ≡ controllerTold (in-controller-acted (λ _. k) d) reply
 unfolding toConsoleSent
 told d k reply =
     λ i.
@@ -50,7 +55,7 @@ told d k reply =
     }
 
 -- an act that reports and sends nothing
-pub done-told : {x : ControllerOutcome} {done : Acted} (d : rules.ControllerActed ℕ Beside) (k reply : List ℕ) → d .report ≡ rules.nothing → d .sent ≡ none → done ≡ acted d → x ≡ record { report = done .report; message = spaces; sent = false; controller = controllerFields (done .after) }
+pub done-told : {x : ControllerOutcome} {done : Acted} (d : rules.ControllerActed Numbers Beside) (k reply : List ℕ) → d .report ≡ rules.nothing → d .sent ≡ none → done ≡ acted d → x ≡ record { report = done .report; message = spaces; sent = false; controller = controllerFields (done .after) }
     → record { outcome = x; reply = reply } ≡ controllerTold (in-controller-acted (λ _. k) d) reply
 unfolding toConsoleSent rules.absent
 done-told d k reply p s g h =

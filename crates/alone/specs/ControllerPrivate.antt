@@ -6,15 +6,14 @@ use lib.Dec.{eqb}
 use Rattle.ground.specs.Cell.{spaces}
 use Rattle.ground.specs.Choice.{if_then_else_}
 use Rattle.ground.specs.First.{first}
-use Rattle.protocol.specs.Ends.{absent, down-4, mode-6}
-use Rattle.ends.specs.Fields.{controllerFields}
-use Rattle.ends.specs.InRules.{deliveredBeside}
-use Rattle.ends.specs.Means.{forConsole}
+use Rattle.rules.specs.Ends.{absent, down-4, mode-6}
+use Rattle.ends_controller.specs.Fields.{controllerFields}
+use Rattle.ends.specs.AsRules.{forConsole, deliveredBeside}
 use Rattle.ends.specs.Packets.{toConsoleSent}
 use Rattle.ends.specs.declared.ForConsole.{ForConsole}
 use Rattle.ends.specs.declared.Report.the-variants as report
-use Rattle.ends.specs.declared.controller.Acted.{Acted}
-use Rattle.ends.specs.declared.fields.Controller.{Controller}
+use Rattle.ends_controller.specs.declared.Acted.{Acted}
+use Rattle.ends_controller.specs.declared.fields.Controller.{Controller}
 use Rattle.alone.specs.Alone.{replied}
 use Rattle.alone.specs.ControllerAlone.{ControllerAlone, controllerRefused}
 

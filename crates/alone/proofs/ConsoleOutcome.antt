@@ -1,30 +1,37 @@
 -- What the code tells of a console's act is what the rules' act is told as.
 use Prim.Native.Nat.{ℕ}
 use mathlib.Core.Path.{_≡_, refl, sym, ap, _∙_}
-use mathlib.Core.Bool.{Bool, false, not}
+use mathlib.Core.Bool.{Bool, true, false, not}
 use mathlib.Core.Option.{Option, none, some, Option·map}
 use mathlib.Core.List.{List}
 use lib.ListN.{length}
-use Rattle.protocol.specs.Ends as rules
-use Rattle.protocol.specs.Relabel.{in-packet, in-console-acted}
-use Rattle.ends.specs.Means.{Beside, toController, forController, forControllerBack}
-use Rattle.ends.specs.Console.{acted}
-use Rattle.ends.specs.Fields.{consoleFields}
+use Rattle.rules.specs.Supply.{Numbers}
+use Rattle.rules.specs.Ends as rules
+use Rattle.rules.specs.Relabel.{in-packet, in-console-acted}
+use Rattle.ends.specs.AsRules.{Beside, toController, forController, forControllerBack}
+use Rattle.ends_console.specs.AsRules.{acted}
+use Rattle.ends_console.specs.Fields.{consoleFields}
 use Rattle.ends.specs.Packets.{toControllerPacket, toControllerSent}
-use Rattle.ends.proofs.ConsoleRefusals.{same-for-controller}
-use Rattle.ends.proofs.Telling.{report-told, fields-told}
+use Rattle.ends_console.proofs.Decisions.{same-for-controller}
+use Rattle.ends.proofs.Reports.{report-told}
+use Rattle.ends_console.proofs.FieldsAsRules.{fields-told}
 use Rattle.wire.specs.Packet.{packetWritten}
 use Rattle.wire.specs.declared.Packet.{Packet}
 use Rattle.ends.specs.declared.ToController.{ToController}
 use Rattle.ends.specs.declared.ForController.{ForController}
 use Rattle.ends.specs.declared.ForController.the-variants as for-controller
-use Rattle.ends.specs.declared.console.Acted.{Acted}
-use Rattle.ends.specs.declared.fields.Console.{Console}
+use Rattle.ends_console.specs.declared.Acted.{Acted}
+use Rattle.ends_console.specs.declared.fields.Console.{Console}
 use Rattle.alone.specs.Alone.{Writable, replied}
 use Rattle.alone.specs.ConsoleAlone.{consoleTold}
-use Rattle.alone.specs.ConsoleWithin.{consoleTells}
+use Rattle.alone.specs.ConsolePrivate.{consoleTells}
 use Rattle.alone.specs.declared.console.ConsoleOutcome.{ConsoleOutcome}
-use Rattle.alone.proofs.Told.{written}
+use Rattle.alone.proofs.ReplyWritten.{written}
+
+-- something is sent
+pub sent-one : {s : ForController} {p : ToController} → s ≡ for-controller.Packet p → true ≡ not (rules.absent (forController s))
+unfolding rules.absent
+sent-one f = rw f
 
 -- what is sent to the controller and can be written is written
 pub written-to-controller : {x : List ℕ} {s : ForController} {p : ToController} {q : Packet} (m out : List ℕ) → s ≡ for-controller.Packet p → q ≡ toControllerPacket (in-packet (λ _. m) (toController p)) → Writable (toControllerSent s m) (length out) → x ≡ packetWritten out q → x ≡ replied (toControllerSent s m) out
@@ -37,7 +44,7 @@ absent-told k none = refl
 absent-told k (some p) = refl
 
 -- the acts of the rules at messages of one value, told with the message k beside them
-pub told : (d : rules.ConsoleActed ℕ Beside) (k reply : List ℕ) → consoleTells (acted d) k reply ≡ consoleTold (in-console-acted (λ _. k) d) reply
+pub told : (d : rules.ConsoleActed Numbers Beside) (k reply : List ℕ) → consoleTells (acted d) k reply ≡ consoleTold (in-console-acted (λ _. k) d) reply
 unfolding toControllerSent
 told d k reply =
     λ i.
@@ -52,7 +59,7 @@ told d k reply =
     }
 
 -- an act that sends nothing
-pub done-told : {x : ConsoleOutcome} {done : Acted} (d : rules.ConsoleActed ℕ Beside) (k reply : List ℕ) → d .sent ≡ none → done ≡ acted d → x ≡ record { report = done .report; sent = false; console = consoleFields (done .after) k }
+pub done-told : {x : ConsoleOutcome} {done : Acted} (d : rules.ConsoleActed Numbers Beside) (k reply : List ℕ) → d .sent ≡ none → done ≡ acted d → x ≡ record { report = done .report; sent = false; console = consoleFields (done .after) k }
     → record { outcome = x; reply = reply } ≡ consoleTold (in-console-acted (λ _. k) d) reply
 unfolding toControllerSent rules.absent
 done-told d k reply s g h =

@@ -11,22 +11,21 @@ use lib.ListN.{length, getD, drop, replicate}
 use Rattle.ground.specs.Cell.{cells, isMessage, spaces}
 use Rattle.ground.specs.Choice.{if_then_else_}
 use Rattle.ground.specs.Every.{filled}
-use Rattle.protocol.specs.Supply.{numbering}
-use Rattle.protocol.specs.Letters.{P-put, line, letters, among, letter}
-use Rattle.protocol.specs.Ends as ends
-use Rattle.protocol.specs.Bench as rules
-use Rattle.protocol.specs.WellFormed.{Well-formed}
-use Rattle.protocol.proofs.Supply.{numbering-lawful}
-use Rattle.protocol.proofs.WellFormed.{fresh-well-formed, step-well-formed}
+use Rattle.rules.specs.Supply.{numbering, Numbers}
+use Rattle.rules.specs.Letters.{P-put, line, letters, among, letter}
+use Rattle.rules.specs.Ends as ends
+use Rattle.rules.specs.Bench as rules
+use Rattle.rules.specs.WellFormed.{Well-formed}
+use Rattle.rules.proofs.Supply.{numbering-lawful}
+use Rattle.rules.proofs.WellFormed.{fresh-well-formed, step-well-formed}
 use Rattle.letters.specs.Lines.{lineOf}
-use Rattle.ends.specs.InRules.{delivered}
-use Rattle.ends.specs.Means.{reportBack}
+use Rattle.ends.specs.AsRules.{delivered, reportBack}
 use Rattle.ends.specs.declared.Report.the-variants.{Nothing, Refused}
 use Rattle.listing.specs.Line.{decimals, lineBytes}
 use Rattle.listing.specs.Record.{listRecord, wellFormed, fieldsFit, placeFits, copiesFit, messageFits, isPlace, isCopies, fields}
 use Rattle.channels.proofs.Channel.{channel-none}
 use Rattle.channels.proofs.Packets.{to-controller-coded, to-console-coded}
-use Rattle.bench.specs.Means.{benchBack}
+use Rattle.bench.specs.AsRules.{benchBack}
 use Rattle.bench.specs.Promise.{Result, benchTold, benchStep}
 use Rattle.bench.specs.Reports.{reportLine}
 use Rattle.bench.specs.Running.{recordsOf, listAction, played, lines, limitOf, listLines, Ran, listRun}
@@ -45,13 +44,13 @@ put = 0x50 ∷ 0x30 ∷ 0x30 ∷ 0x30 ∷ (spaces ++ 0x0A ∷ [])
 abbrev putting : Action
 putting = record { letter = 0x50; place = 0; copies = 0; message = spaces }
 
-abbrev fresh : rules.Bench ℕ (List ℕ)
+abbrev fresh : rules.Bench Numbers (List ℕ)
 fresh = rules.fresh 0 0
 
 abbrev asked : rules.Action (List ℕ)
 asked = asRules P-put putting
 
-abbrev after : rules.Bench ℕ (List ℕ)
+abbrev after : rules.Bench Numbers (List ℕ)
 after = rules.step numbering isMessage fresh asked .after
 
 fresh-ok : Well-formed numbering isMessage fresh
@@ -61,7 +60,7 @@ after-ok : Well-formed numbering isMessage after
 after-ok = step-well-formed numbering numbering-lawful isMessage fresh asked fresh-ok
 
 -- the record is the action
-put-played : (b : rules.Bench ℕ (List ℕ)) → played (benchBack b) (out b) (back b) put ≡ benchStep (benchBack b) putting (out b) (back b)
+put-played : (b : rules.Bench Numbers (List ℕ)) → played (benchBack b) (out b) (back b) put ≡ benchStep (benchBack b) putting (out b) (back b)
 unfolding played listAction listRecord wellFormed fieldsFit placeFits copiesFit messageFits isPlace isCopies fields isMessage cells filled if_then_else_ line letters among letter lineOf
 put-played b = refl
 

@@ -10,7 +10,7 @@ use Rattle.ground.specs.Every.{filled}
 use Rattle.listing.specs.Line.{decimals, lineBytes}
 use Rattle.listing.specs.Record.{isPlace, isCopies, placeFits, copiesFit, messageFits, fieldsFit, wellFormed, fields, illFormed, listRecord}
 use Rattle.listing.proofs.Vectors.{start, laid}
-use Rattle.protocol.specs.Letters.{line, letters, among, letter}
+use Rattle.rules.specs.Letters.{line, letters, among, letter}
 use Rattle.letters.specs.Lines.{lineOf}
 use Rattle.ends.specs.declared.Report.{Report}
 use Rattle.ends.specs.declared.Report.the-variants as report

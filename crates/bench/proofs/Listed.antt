@@ -14,22 +14,22 @@ use Rattle.ground.specs.Cell.{isMessage}
 use Rattle.ground.specs.Choice.{if_then_else_}
 use Rattle.ground.proofs.Tests.{by-test}
 use Rattle.ground.specs.Bytes.{field}
-use Rattle.protocol.specs.Supply.{numbering}
-use Rattle.protocol.specs.Letters.{Letter, line, letters, among, letter}
-use Rattle.protocol.specs.Bench as rules
-use Rattle.protocol.specs.Log.{Event}
-use Rattle.protocol.specs.Plain.{Plain}
-use Rattle.protocol.specs.Demand3.{written}
-use Rattle.protocol.specs.WellFormed.{Well-formed}
-use Rattle.protocol.proofs.Letters.{letter-of}
-use Rattle.protocol.proofs.Plain.{right-plain}
-use Rattle.protocol.proofs.WellFormed.{fresh-well-formed}
+use Rattle.rules.specs.Supply.{numbering, Numbers}
+use Rattle.rules.specs.Letters.{Letter, line, letters, among, letter}
+use Rattle.rules.specs.Bench as rules
+use Rattle.rules.specs.Log.{Event}
+use Rattle.rules.specs.Plain.{Plain}
+use Rattle.rules.specs.Demand3.{written}
+use Rattle.rules.specs.WellFormed.{Well-formed}
+use Rattle.rules.proofs.Letters.{letter-of}
+use Rattle.rules.proofs.Plain.{right-plain}
+use Rattle.rules.proofs.WellFormed.{fresh-well-formed}
 use Rattle.letters.specs.Lines.{lineOf, foundOf}
 use Rattle.ends.specs.declared.Report.{Report}
 use Rattle.ends.specs.declared.Report.the-variants as report
 use Rattle.listing.specs.Record.{listRecord, wellFormed, fields, illFormed}
 use Rattle.channels.specs.Table.{laid, channel}
-use Rattle.bench.specs.Means.{benchBack}
+use Rattle.bench.specs.AsRules.{benchBack}
 use Rattle.bench.specs.Promise.{Result, benchRefused, benchTold, benchStep, benchFresh, freshRules}
 use Rattle.bench.specs.Reports.{reportCells, cellsSay, reportLine}
 use Rattle.bench.specs.Running.{recordsOf, usesOf, actionAs, listAction, playedAs, played, lines, limitOf, listLines, Ran, listRun}
@@ -38,7 +38,7 @@ use Rattle.bench.specs.Listed.{actionOr, actionOf, recordsIn, actionsIn,
 use Rattle.bench.specs.declared.Action.{Action}
 use Rattle.bench.specs.declared.Bench.{Bench}
 use Rattle.bench.specs.declared.Outcome.{Outcome}
-use Rattle.bench.proofs.Leaving.{step-leaves}
+use Rattle.bench.proofs.StepLeaves.{step-leaves}
 use Rattle.bench.proofs.Orders.{out, back, orders-right}
 use Rattle.bench.proofs.Reports.{said, refusal-said, line-letter, line-says, line-message, line-long}
 use Rattle.bench.proofs.runner.run.Kinds as run-kinds
@@ -110,10 +110,10 @@ module _ (k : ℕ) (s m : List ℕ) (long : length m ≡ 16) where
 
 -- ## All lines, where the rules' bench stands
 
-abbrev outcomesFrom : rules.Bench ℕ (List ℕ) → List (List ℕ) → List Outcome
+abbrev outcomesFrom : rules.Bench Numbers (List ℕ) → List (List ℕ) → List Outcome
 outcomesFrom b ss = outcomes (benchBack b) (out b) (back b) (map actionOf ss)
 
-all-shown : (k : ℕ) (b : rules.Bench ℕ (List ℕ)) → Well-formed numbering isMessage b → (ss : List (List ℕ)) (rest : List ℕ)
+all-shown : (k : ℕ) (b : rules.Bench Numbers (List ℕ)) → Well-formed numbering isMessage b → (ss : List (List ℕ)) (rest : List ℕ)
     → (linesShow ss (linesOf k ss (outcomesFrom b ss) ++ rest) ≡ allShown (map actionOf ss) (outcomesFrom b ss)) × (length (linesOf k ss (outcomesFrom b ss)) ≡ 27 * length ss)
 unfolding linesShow linesOf outcomes allShown
 all-shown k b w [] rest = (refl, refl)

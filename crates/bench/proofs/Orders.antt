@@ -11,53 +11,52 @@ use Rattle.ground.specs.Cell.{isMessage}
 use Rattle.ground.specs.Choice.{if_then_else_}
 use Rattle.wire.specs.declared.I.{I}
 use Rattle.wire.specs.declared.J.{J}
-use Rattle.protocol.specs.Supply.{numbering, largest}
-use Rattle.protocol.specs.Letters.{Letter, line, letter}
-use Rattle.protocol.proofs.Letters.{letter-of}
+use Rattle.rules.specs.Supply.{Numbers, numbering, largest}
+use Rattle.rules.specs.Letters.{Letter, line, letter}
+use Rattle.rules.proofs.Letters.{letter-of}
 use Rattle.ends.specs.declared.Report.{Report}
-use Rattle.protocol.specs.Ends as ends
-use Rattle.protocol.specs.Bench as rules
-use Rattle.protocol.specs.Relabel.{in-report, in-bench, in-outcome}
-use Rattle.protocol.specs.Log.{Log, Event, put-count, Right}
-use Rattle.protocol.specs.Plain.{Plain}
-use Rattle.protocol.proofs.Plain.{right-plain}
-use Rattle.protocol.specs.Demand3.{row, write, labelled-step, row-of, written, unnumbered, shown, held-label}
-use Rattle.protocol.specs.Demand3 as protocol
-use Rattle.protocol.specs.WellFormed.{Well-formed}
-use Rattle.protocol.proofs.Demand3.{bare, row-shown, bare-step, demand3-messages}
-use Rattle.protocol.proofs.Supply.{numbering-lawful}
-use Rattle.protocol.proofs.WellFormed.{step-well-formed, fresh-well-formed}
-use Rattle.ends.specs.Means.{reportBack}
-use Rattle.ends.specs.InRules.{delivered}
+use Rattle.rules.specs.Ends as ends
+use Rattle.rules.specs.Bench as rules
+use Rattle.rules.specs.Relabel.{in-report, in-bench, in-outcome}
+use Rattle.rules.specs.Log.{Log, Event, put-count, Right}
+use Rattle.rules.specs.Plain.{Plain}
+use Rattle.rules.proofs.Plain.{right-plain}
+use Rattle.rules.specs.Demand3.{write, labelled-step, row-of, written, unnumbered, shown, held-label}
+use Rattle.rules.specs.Demand3 as protocol
+use Rattle.rules.specs.WellFormed.{Well-formed}
+use Rattle.rules.proofs.Demand3.{bare, row-shown, bare-step, demand3-messages}
+use Rattle.rules.proofs.Supply.{numbering-lawful}
+use Rattle.rules.proofs.WellFormed.{step-well-formed, fresh-well-formed}
+use Rattle.ends.specs.AsRules.{reportBack, delivered}
 use Rattle.channels.specs.Packets.{toControllerBytes, toConsoleBytes}
 use Rattle.channels.specs.Table.{channel}
-use Rattle.bench.specs.Means.{benchOk, benchBack}
+use Rattle.bench.specs.AsRules.{benchOk, benchBack}
 use Rattle.bench.specs.Promise.{Result, benchRefused, benchTold, benchStep, benchFresh, freshRules}
 use Rattle.bench.specs.Orders.{asRules, Labels, Rows, rowsFrom, rowsOf, outcomes, freshOutcomes, shownBy, allShown, OrdersRight, leaves}
 use Rattle.bench.specs.declared.Action.{Action}
 use Rattle.bench.specs.declared.Outcome.{Outcome}
-use Rattle.bench.proofs.Standing.{stands-ok, stands-for}
+use Rattle.bench.proofs.BenchStands.{stands-ok, stands-for}
 
 -- ## One step
 
-abbrev pub out : rules.Bench ℕ (List ℕ) → List ℕ
+abbrev pub out : rules.Bench Numbers (List ℕ) → List ℕ
 out b = channel toControllerBytes (b .toController)
 
-abbrev pub back : rules.Bench ℕ (List ℕ) → List ℕ
+abbrev pub back : rules.Bench Numbers (List ℕ) → List ℕ
 back b = channel toConsoleBytes (b .toConsole)
 
 -- where the rules' bench stands, the promise's step is the rules' step
-pub step-of : (b : rules.Bench ℕ (List ℕ)) → Well-formed numbering isMessage b → (a : Action) (l : Letter) → letter (a .letter) ≡ some l
+pub step-of : (b : rules.Bench Numbers (List ℕ)) → Well-formed numbering isMessage b → (a : Action) (l : Letter) → letter (a .letter) ≡ some l
     → benchStep (benchBack b) a (out b) (back b) ≡ benchTold (rules.step numbering isMessage b (asRules l a))
 unfolding benchStep if_then_else_
 step-of b w a l e = rw (e, stands-ok b w, stands-for b w)
 
-pub step-none : (b : rules.Bench ℕ (List ℕ)) (a : Action) → letter (a .letter) ≡ none → benchStep (benchBack b) a (out b) (back b) ≡ benchRefused 1 (benchBack b) (out b) (back b)
+pub step-none : (b : rules.Bench Numbers (List ℕ)) (a : Action) → letter (a .letter) ≡ none → benchStep (benchBack b) a (out b) (back b) ≡ benchRefused 1 (benchBack b) (out b) (back b)
 unfolding benchStep
 step-none b a e = rw e
 
 -- well-formedness is kept: what a step leaves passes the check again
-pub step-keeps : (b : rules.Bench ℕ (List ℕ)) → Well-formed numbering isMessage b → (a : Action) (l : Letter) → letter (a .letter) ≡ some l
+pub step-keeps : (b : rules.Bench Numbers (List ℕ)) → Well-formed numbering isMessage b → (a : Action) (l : Letter) → letter (a .letter) ≡ some l
     → let r = benchStep (benchBack b) a (out b) (back b) in benchOk (r .outcome .bench) (r .out) (r .back) ≡ true
 unfolding benchTold
 step-keeps b w a l e =
@@ -116,11 +115,11 @@ one-shows past b a l w (some x) e more =
     let labelled = labelled-step numbering isMessage past b act in
     let o = rules.step numbering isMessage c act in
     let same : o ≡ in-outcome bare labelled = bare-step numbering isMessage past b act in
-    let ok : Well-formed numbering isMessage (in-bench bare (labelled .after)) = subst (λ (z : rules.Outcome ℕ (List ℕ)). Well-formed numbering isMessage (z .after)) same (step-well-formed numbering numbering-lawful isMessage c act w) in
+    let ok : Well-formed numbering isMessage (in-bench bare (labelled .after)) = subst (λ (z : rules.Outcome Numbers (List ℕ)). Well-formed numbering isMessage (z .after)) same (step-well-formed numbering numbering-lawful isMessage c act w) in
     ap₂ (λ (y : Option (Event (List ℕ))) (z : Rows). y ∷ z)
     (row-shown (suc (put-count past)) (held-label (b .console .mode)) act (labelled .report) ∙ same-shown a x e (in-report bare (labelled .report)))
     (more (write (row-of numbering isMessage past b act) past) (labelled .after) ok)
-    ∙ ap (λ (z : rules.Outcome ℕ (List ℕ)). after a l (benchTold z)) (sym same)
+    ∙ ap (λ (z : rules.Outcome Numbers (List ℕ)). after a l (benchTold z)) (sym same)
     ∙ ap (after a l) (sym (step-of c w a x e))
 
 same-shows : (past : Log (List ℕ)) (b : Labels) (l : List Action) → Well-formed numbering isMessage (in-bench bare b) → Shows past b l
@@ -167,7 +166,7 @@ told o = (o .report, o .message)
 abbrev pub toldOf : ends.Report (List ℕ) → Report × List ℕ
 toldOf r = (reportBack r, delivered r)
 
-pub reports-are : (b : rules.Bench ℕ (List ℕ)) → Well-formed numbering isMessage b → (l : List (rules.Action (List ℕ)))
+pub reports-are : (b : rules.Bench Numbers (List ℕ)) → Well-formed numbering isMessage b → (l : List (rules.Action (List ℕ)))
     → map told (outcomes (benchBack b) (out b) (back b) (map coded l)) ≡ map toldOf (rules.reports numbering isMessage b l)
 unfolding outcomes rules.reports benchTold
 reports-are b w [] = refl
@@ -176,7 +175,7 @@ reports-are b w (a ∷ l) =
     ap (λ (r : Result). told (r .outcome) ∷ map told (outcomes (r .outcome .bench) (r .out) (r .back) (map coded l))) (step-of b w (coded a) (a .letter) (letter-of (a .letter)))
     ∙ ap (λ (rs : List (Report × List ℕ)). toldOf (o .report) ∷ rs) (reports-are (o .after) (step-well-formed numbering numbering-lawful isMessage b a w) l)
 
-pub leaves-are : (b : rules.Bench ℕ (List ℕ)) → Well-formed numbering isMessage b → (l : List (rules.Action (List ℕ)))
+pub leaves-are : (b : rules.Bench Numbers (List ℕ)) → Well-formed numbering isMessage b → (l : List (rules.Action (List ℕ)))
     → let c = rules.run numbering isMessage b l in leaves (benchBack b) (out b) (back b) (map coded l) ≡ (benchBack c, out c, back c)
 unfolding leaves rules.run benchTold
 leaves-are b w [] = refl

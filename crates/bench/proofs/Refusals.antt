@@ -12,11 +12,12 @@ use Rattle.ground.proofs.Promise.{RefusalLeaves}
 use Rattle.ground.proofs.Tests.{by-test}
 use Rattle.wire.specs.declared.I.{I}
 use Rattle.wire.specs.declared.J.{J}
-use Rattle.ends.proofs.Telling.{number, IsRefused, its-number}
+use Rattle.ends.specs.AsRules.{numberIn}
+use Rattle.ends.proofs.Reports.{IsRefused, its-number}
 use Rattle.bench.specs.Promise.{Result, benchRefused, benchTold, benchFresh}
-use Rattle.bench.specs.Within.{Typed}
+use Rattle.bench.specs.Loaded.{Typed}
 use Rattle.bench.specs.declared.Bench.{Bench}
-use Rattle.bench.proofs.Untouched.{refused-same}
+use Rattle.bench.proofs.RefusedSame.{refused-same}
 use Rattle.bench.proofs.step.Kinds as step-kinds
 use Rattle.bench.proofs.step.Reads as step
 use Rattle.bench.proofs.fresh.Kinds as fresh-kinds
@@ -28,7 +29,7 @@ pub step-refusal-leaves : RefusalLeaves step-kinds.ps step-kinds.r step.Post
 unfolding benchRefused
 step-refusal-leaves κs a x s typed refused p =
     let e = sym (ap (λ (r : Result). r .outcome .report) p) ∙ its-number (x .report) refused in
-    ap (λ (r : Result). (r .outcome .bench, r .out, r .back)) (p ∙ refused-same (a .0) (now (a .1 .1 .0)) (now (a .1 .1 .1 .0)) (typed .0) (typed .1) (typed .2) (a .1 .0) (number (x .report)) e)
+    ap (λ (r : Result). (r .outcome .bench, r .out, r .back)) (p ∙ refused-same (a .0) (now (a .1 .1 .0)) (now (a .1 .1 .1 .0)) (typed .0) (typed .1) (typed .2) (a .1 .0) (numberIn (x .report)) e)
 
 fresh-left : (j : J) (i : I) (out back : List ℕ) → IsRefused (benchFresh j i out back .outcome .report) → _≡_ {A = List ℕ × List ℕ} (benchFresh j i out back .out, benchFresh j i out back .back) (out, back)
 unfolding benchFresh benchTold benchRefused if_then_else_

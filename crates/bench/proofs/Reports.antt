@@ -9,7 +9,7 @@ use Rattle.ground.specs.Bytes.{field}
 use Rattle.ground.specs.Choice.{if_then_else_}
 use Rattle.listing.specs.Line.{decimals, lineBytes}
 use Rattle.listing.proofs.LineWritten.{two-digits-are}
-use Rattle.listing.proofs.Parts as parts
+use Rattle.listing.proofs.LineParts as parts
 use Rattle.ends.specs.declared.Report.{Report}
 use Rattle.ends.specs.declared.Report.the-variants as report
 use Rattle.bench.specs.Reports.{letterCell, reportCells, cellsSay, reportLine}

@@ -10,8 +10,8 @@ use Rattle.ground.specs.Choice.{if_then_else_}
 use Rattle.ground.proofs.Tests.{by-test}
 use Rattle.tables.specs.Table.{takenOut}
 use Rattle.channels.specs.Table.{added}
-use Rattle.bench.specs.Moving.{roomFor, countSent, tableSent, countTaken, tableTaken}
-use Rattle.bench.specs.declared.moves.Sent.{Sent}
+use Rattle.bench.specs.Traffic.{roomFor, countSent, tableSent, countTaken, tableTaken}
+use Rattle.bench.specs.declared.traffic.Sent.{Sent}
 
 pub room-same : (count copies : ℕ) → count ≤ 64 → leb copies (64 - count) ≡ leb (count + copies) 64
 room-same count copies h =

@@ -11,21 +11,21 @@ use borrow.Author.Tests.{lt-ltb, le-ltb, ltb-true, ltb-false}
 use Rattle.ground.specs.Choice.{if_then_else_}
 use Rattle.ground.proofs.Tests.{by-test}
 use Rattle.ground.specs.Cell.{isMessage}
-use Rattle.protocol.specs.Supply.{numbering}
-use Rattle.protocol.specs.Bench as rules
-use Rattle.protocol.proofs.WellFormed.{fresh-well-formed}
+use Rattle.rules.specs.Supply.{numbering}
+use Rattle.rules.specs.Bench as rules
+use Rattle.rules.proofs.WellFormed.{fresh-well-formed}
 use Rattle.listing.specs.Record.{recordEnd}
 use Rattle.listing.proofs.Ending.{end-within, end-after}
 use Rattle.channels.specs.Table.{packets}
 use Rattle.channels.proofs.Channel.{channel-none}
 use Rattle.channels.proofs.Packets.{to-controller-coded, to-console-coded}
-use Rattle.bench.specs.Means.{benchBack}
-use Rattle.tables.proofs.Parts.{part, replaced, part-length}
+use Rattle.bench.specs.AsRules.{benchBack}
+use Rattle.tables.proofs.LentParts.{part, replaced, part-length}
 use Rattle.bench.specs.Reports.{reportLine}
 use Rattle.bench.specs.Running.{recordsOf, played, lines, limitOf, listLines, listOutput, Ran, atFront, listRun}
-use Rattle.bench.specs.Within.{Known, insideMeans, benchOf, Played, linesOn, started}
+use Rattle.bench.specs.Loaded.{Well, loadedMeans, benchOf, Played, linesOn, started}
 use Rattle.bench.specs.declared.Bench.{Bench}
-use Rattle.bench.specs.declared.inside.Inside.{Inside}
+use Rattle.bench.specs.declared.loaded.Loaded.{Loaded}
 
 -- ## Records
 
@@ -90,11 +90,11 @@ limit-roomy room e = let p = limit-fits room .0 in omega (arith, p, e)
 -- ## The loop
 
 -- what is written, and what is to come
-abbrev pub Along : List ℕ → List ℕ → List ℕ → ℕ → ℕ → Inside → List ℕ → List ℕ → List ℕ → Type 0
+abbrev pub Along : List ℕ → List ℕ → List ℕ → ℕ → ℕ → Loaded → List ℕ → List ℕ → List ℕ → Type 0
 Along all input before limit n b output out back =
     (length output ≡ length before) × (drop (n * 27) output ≡ drop (n * 27) before) × (all ≡ take (n * 27) output ++ lines (n + 1) (benchOf b) out back (recordsOf (limit - n) (drop (n * 21) input)))
 
-pub along-first : (b : Inside) (input before out back : List ℕ) {limit : ℕ} → limit ≡ limitOf (length before) → Along (linesOn b out back input (length before)) input before limit 0 b before out back
+pub along-first : (b : Loaded) (input before out back : List ℕ) {limit : ℕ} → limit ≡ limitOf (length before) → Along (linesOn b out back input (length before)) input before limit 0 b before out back
 unfolding linesOn
 along-first b input before out back {limit} e =
     (refl, refl, ap (λ (m : ℕ). lines 1 (benchOf b) out back (recordsOf m input)) (sym e ∙ omega arith))
@@ -107,7 +107,7 @@ lines-next k b out back s ss =
     let f : suc k ≡ k + 1 = omega arith in
     ap (λ (m : ℕ). reportLine k (getD s 0 0) (r .outcome .report) (r .outcome .message) ++ lines m (r .outcome .bench) (r .out) (r .back) ss) f
 
-module _ (all input before output : List ℕ) (limit n : ℕ) (b : Inside) (out back : List ℕ) where
+module _ (all input before output : List ℕ) (limit n : ℕ) (b : Loaded) (out back : List ℕ) where
   abbrev s : List ℕ
   s = take 21 (drop (n * 21) input)
 
@@ -119,7 +119,7 @@ module _ (all input before output : List ℕ) (limit n : ℕ) (b : Inside) (out 
       ap (λ (m : ℕ). recordsOf m (drop (n * 21) input)) f ∙ records-next (limit - (n + 1)) (drop (n * 21) input) (omega (arith, l, k))
       ∙ ap (λ (x : List ℕ). s ∷ recordsOf (limit - (n + 1)) x) (drop-drop 21 (n * 21) input ∙ ap (λ (m : ℕ). drop m input) g)
 
-  pub along-next : {after : Inside} {line out′ back′ : List ℕ} → Along all input before limit n b output out back → n < limit → limit * 27 ≤ length before → n * 21 < length input
+  pub along-next : {after : Loaded} {line out′ back′ : List ℕ} → Along all input before limit n b output out back → n < limit → limit * 27 ≤ length before → n * 21 < length input
       → Played b out back s (n + 1) after line out′ back′ → length line ≡ 27
       → Along all input before limit (n + 1) after (replaced output (n * 27) (n * 27 + 27) line) out′ back′
   along-next {after} {line} {out′} {back′} v h r k p l =
@@ -152,7 +152,7 @@ module _ (all input before output : List ℕ) (limit n : ℕ) (b : Inside) (out 
             ∙ ap (λ (x : List ℕ). x ++ lines (n + 1 + 1) (benchOf after) out′ back′ (recordsOf (limit - (n + 1)) (drop ((n + 1) * 21) input))) (sym taken ∙ ap (take ((n + 1) * 27)) (sym whole)),
       )
 
-  pub along-turn : {end : ℕ} {after : Inside} {line out′ back′ : List ℕ} → Along all input before limit n b output out back → n < limit → limit * 27 ≤ length before → n * 21 < length input
+  pub along-turn : {end : ℕ} {after : Loaded} {line out′ back′ : List ℕ} → Along all input before limit n b output out back → n < limit → limit * 27 ≤ length before → n * 21 < length input
       → end ≡ recordEnd (n * 21) (length input) → Played b out back (part input (n * 21) end) (n + 1) after line out′ back′ → length line ≡ 27
       → Along all input before limit (n + 1) after (replaced output (n * 27) (n * 27 + 27) line) out′ back′
   along-turn {end} {after} {line} {out′} {back′} v h r k e p l =
@@ -177,13 +177,13 @@ module _ (all input before output : List ℕ) (limit n : ℕ) (b : Inside) (out 
 
 -- ## From a fresh bench
 
-pub starts-known : {b : Inside} (out back : List ℕ) → b ≡ started → out ≡ replicate 2048 0 → back ≡ replicate 2048 0 → Known b out back
-unfolding insideMeans packets rules.fresh
+pub starts-known : {b : Loaded} (out back : List ℕ) → b ≡ started → out ≡ replicate 2048 0 → back ≡ replicate 2048 0 → Well b out back
+unfolding loadedMeans packets rules.fresh
 starts-known out back e f g =
-    subst (λ (x : Inside). Known x out back) (sym e)
+    subst (λ (x : Loaded). Well x out back) (sym e)
     (record { well-formed = fresh-well-formed numbering isMessage 0 0 refl refl; out-holds = f ∙ sym (channel-none to-controller-coded); back-holds = g ∙ sym (channel-none to-console-coded) })
 
-pub starts-run : (b : Inside) (out back input before after : List ℕ) {n : ℕ} → b ≡ started → out ≡ replicate 2048 0 → back ≡ replicate 2048 0
+pub starts-run : (b : Loaded) (out back input before after : List ℕ) {n : ℕ} → b ≡ started → out ≡ replicate 2048 0 → back ≡ replicate 2048 0
     → record { number = n; output = after } ≡ atFront (linesOn b out back input (length before)) before → record { number = n; output = after } ≡ listRun input before
 unfolding linesOn listLines listRun benchBack rules.fresh
 starts-run b out back input before after {n} e f g h =

@@ -5,16 +5,16 @@ use mathlib.Core.Bool.{true}
 use mathlib.Core.List.{List, [], _∷_, map}
 use native.Mathlib.Omega.{arith}
 use Rattle.ground.specs.Cell.{cells, isMessage}
-use Rattle.protocol.specs.Supply.{numbering}
-use Rattle.protocol.specs.Bench as rules
-use Rattle.protocol.specs.Ends.{ConsoleMode, ControllerMode, order}
-use Rattle.protocol.specs.Lists.{All}
-use Rattle.protocol.specs.Starred.{Check, a, played, starred}
-use Rattle.protocol.specs.WellFormed.{Well-formed}
-use Rattle.protocol.proofs.Starred.{starred-hold}
-use Rattle.protocol.proofs.WellFormed.{fresh-well-formed}
+use Rattle.rules.specs.Supply.{numbering}
+use Rattle.rules.specs.Bench as rules
+use Rattle.rules.specs.Ends.{ConsoleMode, ControllerMode, order}
+use Rattle.rules.specs.Lists.{All}
+use Rattle.rules.specs.Starred.{Check, a, played, starred}
+use Rattle.rules.specs.WellFormed.{Well-formed}
+use Rattle.rules.proofs.Starred.{starred-hold}
+use Rattle.rules.proofs.WellFormed.{fresh-well-formed}
 use Rattle.ends.specs.declared.Report.{Report}
-use Rattle.bench.specs.Means.{benchBack}
+use Rattle.bench.specs.AsRules.{benchBack}
 use Rattle.bench.specs.Orders.{outcomes, leaves}
 use Rattle.bench.specs.declared.Bench.{Bench}
 use Rattle.bench.proofs.Orders.{out, back, coded, told, toldOf, reports-are, leaves-are}

@@ -7,17 +7,19 @@ use mathlib.Core.List.{List, _∷_, _++_, append-nil}
 use native.Mathlib.Omega.{arith}
 use lib.Dec.{ltb}
 use lib.ListN.{length, replicate, length-append, length-replicate}
-use borrow.Author.Tests.{ltb-true, ltb-false}
+use borrow.Author.Tests.{ltb-true, ltb-false, leb-true}
 use Rattle.ground.specs.Choice.{if_then_else_}
 use Rattle.ground.proofs.Lists.{split, without-beyond}
 use Rattle.ground.proofs.Tests.{by-test}
 use Rattle.wire.specs.declared.Direction.{Direction}
 use Rattle.wire.specs.declared.Packet.{Packet}
-use Rattle.protocol.specs.Bench.{without, copies-of}
-use Rattle.protocol.specs.Lists.{All, Opt}
+use Rattle.rules.specs.Bench.{without, copies-of}
+use Rattle.rules.specs.Lists.{All, Opt}
+use Rattle.rules.proofs.Lists.{all-append, all-without, all-copies}
 use Rattle.channels.specs.Table.{channel, packets}
 use Rattle.channels.proofs.Channel.{Coded, taken-is, added-is, packets-channel}
-use Rattle.bench.specs.Moving.{sentOf, countSent, tableSent, countTaken, tableTaken}
+use Rattle.bench.specs.Traffic.{sentOf, roomFor, countSent, tableSent, countTaken, tableTaken}
+use Rattle.bench.specs.declared.traffic.Sent.{Sent}
 
 -- the packets that are left
 unfoldable pub left : {A : Type 0} → Bool → List A → ℕ → List A
@@ -81,3 +83,44 @@ module _ {A : Type 0} {dir : Direction} {packet : A → Packet} {bytes : A → L
       → (tableSent (sentOf (Option·map packet o)) t count n ≡ channel bytes (ps ++ copies-of n o)) × (countSent (sentOf (Option·map packet o) .any) count n ≡ length (ps ++ copies-of n o))
   sending {ps} n o h k r =
       ((λ i. tableSent (sentOf (Option·map packet o)) (h .table i) (h .number i) n) ∙ sent-there ps n o (h .good) k r, (λ i. countSent (sentOf (Option·map packet o) .any) (h .number i) n) ∙ count-there ps n o)
+
+  -- ## What the table holds then
+
+  all-left : (uses : Bool) (ps : List A) (k : ℕ) → All Ok ps → All Ok (left uses ps k)
+  unfolding left if_then_else_
+  all-left false ps k g = g
+  all-left true ps k g = all-without Ok ps k g
+
+  fewer : (uses : Bool) (ps : List A) (k : ℕ) → length (left uses ps k) ≤ length ps
+  unfolding left if_then_else_
+  fewer false ps k = omega arith
+  fewer true ps k =
+      by-test (ltb k (length ps)) (λ y. let h = one-less ps k (ltb-true k (length ps) y) in omega (arith, h))
+      (λ n. let h = ap length (without-beyond ps k (ltb-false k (length ps) n)) in omega (arith, h))
+
+  pub taken-holds : {ps : List A} {t t′ : List ℕ} {count n : ℕ} (uses : Bool) (k : ℕ) → Holds ps t count → n ≡ countTaken uses count k → t′ ≡ tableTaken uses t count k → Holds (left uses ps k) t′ n
+  taken-holds {ps} uses k h e f =
+      let r = fewer uses ps k in
+      let m = h .room in
+      record { table = f ∙ taking uses k h .0; number = e ∙ taking uses k h .1; good = all-left uses ps k (h .good); room = omega (arith, r, m) }
+
+  room-left : (ps : List A) (n : ℕ) (o : Option A) (count : ℕ) → count ≡ length ps → length ps ≤ 64 → roomFor (sentOf (Option·map packet o) .any) count n ≡ true → length (ps ++ copies-of n o) ≤ 64
+  unfolding roomFor copies-of if_then_else_
+  room-left ps n none count e m r = let h = ap length (append-nil ps) in omega (arith, h, m)
+  room-left ps n (some p) count e m r =
+      let h = length-append ps (replicate n p) in
+      let k = length-replicate n p in
+      let q = leb-true (count + n) 64 r in
+      omega (arith, h, k, q, e)
+
+  pub sent-holds : {ps : List A} {t t′ : List ℕ} {count c : ℕ} {s : Sent} (n : ℕ) (o : Option A) → Holds ps t count → Opt Ok o → s ≡ sentOf (Option·map packet o) → roomFor (s .any) count n ≡ true
+      → c ≡ countSent (s .any) count n → t′ ≡ tableSent s t count n → Holds (ps ++ copies-of n o) t′ c
+  sent-holds {ps} {t} {count = count} n o h g e r f q =
+      let room = room-left ps n o count (h .number) (h .room) (ap (λ (x : Sent). roomFor (x .any) count n) (sym e) ∙ r) in
+      let sends = sending n o h g room in
+      record {
+        table = q ∙ ap (λ (x : Sent). tableSent x t count n) e ∙ sends .0;
+        number = f ∙ ap (λ (x : Sent). countSent (x .any) count n) e ∙ sends .1;
+        good = all-append Ok ps (copies-of n o) (h .good) (all-copies Ok n o g);
+        room = room;
+      }

@@ -9,18 +9,19 @@ use Rattle.ground.specs.Choice.{if_then_else_}
 use Rattle.ground.specs.Every.{filled}
 use Rattle.wire.specs.Number.{bytesOf, value}
 use Rattle.wire.specs.Packet.{isBlank, packetBytes, headOf, headAt, readRefusal, packetRead}
-use Rattle.protocol.specs.Letters.{letters, among, letter}
-use Rattle.protocol.specs.Ends.{ToController, needI, order, done, ToConsole, offer, ok}
-use Rattle.protocol.specs.Bench as rules
-use Rattle.ends.specs.Fields.{consoleOk, consoleMode, consoleWith, freshConsole, downedConsole, controllerOk, controllerMode, freshController}
-use Rattle.ends.specs.declared.console.Mode.the-variants.{Send}
+use Rattle.rules.specs.Letters.{letters, among, letter}
+use Rattle.rules.specs.Ends.{ToController, needI, order, done, ToConsole, offer, ok}
+use Rattle.rules.specs.Bench as rules
+use Rattle.ends_console.specs.Fields.{consoleOk, consoleMode, consoleWith, freshConsole, downedConsole}
+use Rattle.ends_controller.specs.Fields.{controllerOk, controllerMode, freshController}
+use Rattle.ends_console.specs.declared.Mode.the-variants.{Send}
 use Rattle.ends.specs.declared.Report.{Report}
 use Rattle.ends.specs.declared.Report.the-variants as report
-use Rattle.ends.specs.declared.fields.Console.{Console}
-use Rattle.ends.specs.declared.fields.Controller.{Controller}
+use Rattle.ends_console.specs.declared.fields.Console.{Console}
+use Rattle.ends_controller.specs.declared.fields.Controller.{Controller}
 use Rattle.channels.specs.Packets.{toControllerBytes, toControllerRead, toConsoleBytes, toConsoleRead}
 use Rattle.channels.specs.Table.{laid, channel, packets, placesOk, tableOk}
-use Rattle.bench.specs.Means.{benchOk, benchMeans, benchBack}
+use Rattle.bench.specs.AsRules.{benchOk, benchMeans, benchBack}
 use Rattle.bench.specs.Promise.{Result, benchRefused, benchTold, benchStep, benchFresh}
 use Rattle.bench.specs.declared.Action.{Action}
 use Rattle.bench.specs.declared.Bench.{Bench}
@@ -90,13 +91,13 @@ unfolding computes
 tables-ill = refl
 
 abbrev holds : List ℕ → ℕ → ℕ → Console
-holds m j last = record { used = record { 0 = 3 }; held = true; message = m; j = record { 0 = j }; last = record { 0 = last }; up = true }
+holds m j last = record { numbers = record { used = 3 }; held = true; message = m; j = record { 0 = j }; last = record { 0 = last }; up = true }
 
 abbrev holds-none : List ℕ → ℕ → ℕ → Console
-holds-none m j last = record { used = record { 0 = 3 }; held = false; message = m; j = record { 0 = j }; last = record { 0 = last }; up = true }
+holds-none m j last = record { numbers = record { used = 3 }; held = false; message = m; j = record { 0 = j }; last = record { 0 = last }; up = true }
 
 abbrev has : ℕ → ℕ → ℕ → Controller
-has j i last = record { used = record { 0 = 3 }; j = record { 0 = j }; i = record { 0 = i }; last = record { 0 = last }; up = true }
+has j i last = record { numbers = record { used = 3 }; j = record { 0 = j }; i = record { 0 = i }; last = record { 0 = last }; up = true }
 
 -- a message with 0x7F, both numbers, none, j above last used; none held, and a message, j or last; j or i alone, i and last, each above last used
 ends-ill : map (λ (e : Console × Controller). tells (meets (e .0) (e .1) 0 0 clear clear))
@@ -129,7 +130,7 @@ abbrev spent : ℕ
 spent = 4294967295
 
 abbrev no-more : Console
-no-more = consoleWith (record { 0 = spent }) (Send (record { 0 = 1 })) true (row 0x41)
+no-more = consoleWith (record { used = spent }) (Send (record { 0 = 1 })) true (row 0x41)
 
 -- nothing in the air: a console, and what it is asked
 abbrev told : Console × Action → Report

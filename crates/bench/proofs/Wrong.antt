@@ -18,10 +18,11 @@ use Rattle.wire.specs.declared.I.{I}
 use Rattle.wire.specs.declared.J.{J}
 use Rattle.wire.specs.Number.{bytesOf}
 use Rattle.wire.specs.Packet.{packetBytes}
-use Rattle.protocol.specs.Ends.{needI, ok}
-use Rattle.protocol.specs.Bench as rules
-use Rattle.ends.specs.Fields.{consoleWith, freshConsole, freshController}
-use Rattle.ends.specs.declared.console.Mode.the-variants.{NeedI}
+use Rattle.rules.specs.Ends.{needI, ok}
+use Rattle.rules.specs.Bench as rules
+use Rattle.ends_console.specs.Fields.{consoleWith, freshConsole}
+use Rattle.ends_controller.specs.Fields.{freshController}
+use Rattle.ends_console.specs.declared.Mode.the-variants.{NeedI}
 use Rattle.ends.specs.declared.Report.{Report}
 use Rattle.ends.specs.declared.Report.the-variants as report
 use Rattle.channels.specs.Packets.{toControllerBytes, toConsoleBytes}
@@ -50,7 +51,7 @@ clear = replicate 2048 0
 abbrev asking : ℕ → Bench
 asking sent =
     record {
-      console = consoleWith (record { 0 = 1 }) (NeedI (record { 0 = 1 })) true spaces;
+      console = consoleWith (record { used = 1 }) (NeedI (record { 0 = 1 })) true spaces;
       controller = freshController (record { 0 = 0 });
       sent = sent;
       returned = 0;
@@ -125,7 +126,7 @@ abbrev contradicts : Bench
 contradicts =
     record {
       console =
-          record { used = record { 0 = 1 }; held = false; message = spaces; j = record { 0 = 1 }; last = record { 0 = 0 }; up = true };
+          record { numbers = record { used = 1 }; held = false; message = spaces; j = record { 0 = 1 }; last = record { 0 = 0 }; up = true };
       controller = freshController (record { 0 = 0 });
       sent = 0;
       returned = 0;

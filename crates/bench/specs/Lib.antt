@@ -1,9 +1,10 @@
-pub mod Asking
+pub mod Arriving
+pub mod AsRules
+pub mod ByModes
 pub mod Listed
-pub mod Means
-pub mod Moving
+pub mod Loaded
 pub mod Orders
 pub mod Promise
 pub mod Reports
 pub mod Running
-pub mod Within
+pub mod Traffic

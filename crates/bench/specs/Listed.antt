@@ -9,9 +9,9 @@ use Rattle.ground.specs.Cell.{spaces}
 use Rattle.ground.specs.Bytes.{field}
 use Rattle.wire.specs.declared.I.{I}
 use Rattle.wire.specs.declared.J.{J}
-use Rattle.protocol.specs.Bench.{fresh}
-use Rattle.protocol.specs.Log.{Event}
-use Rattle.protocol.specs.Demand3.{unnumbered}
+use Rattle.rules.specs.Bench.{fresh}
+use Rattle.rules.specs.Log.{Event}
+use Rattle.rules.specs.Demand3.{unnumbered}
 use Rattle.bench.specs.Orders.{freshOutcomes, shownBy, Rows, rowsOf, OrdersRight}
 use Rattle.bench.specs.Reports.{cellsSay, reportLine}
 use Rattle.bench.specs.Running.{recordsOf, listAction, limitOf}

@@ -6,12 +6,12 @@ use mathlib.Core.List.{List, [], _∷_, map}
 use Rattle.wire.specs.declared.I.{I}
 use Rattle.wire.specs.declared.J.{J}
 use Rattle.ground.specs.Cell.{isMessage}
-use Rattle.protocol.specs.Supply.{numbering}
-use Rattle.protocol.specs.Letters.{Letter, letter}
-use Rattle.protocol.specs.Bench as rules
-use Rattle.protocol.specs.Bench.{fresh}
-use Rattle.protocol.specs.Log.{Labelled, Log, Event, Delivered, AnsweredOK, AnsweredLost, Right}
-use Rattle.protocol.specs.Demand3.{acted, write, labelled-step, row-of, written, unnumbered}
+use Rattle.rules.specs.Supply.{numbering, Numbers}
+use Rattle.rules.specs.Letters.{Letter, letter}
+use Rattle.rules.specs.Bench as rules
+use Rattle.rules.specs.Bench.{fresh}
+use Rattle.rules.specs.Log.{Labelled, Log, Event, Delivered, AnsweredOK, AnsweredLost, Right}
+use Rattle.rules.specs.Demand3.{acted, write, labelled-step, row-of, written, unnumbered}
 use Rattle.ends.specs.declared.Report.{Report}
 use Rattle.ends.specs.declared.Report.the-variants as report
 use Rattle.bench.specs.Promise.{benchStep, benchFresh}
@@ -52,7 +52,7 @@ abbrev pub asRules : Letter → Action → rules.Action (List ℕ)
 asRules l a = rules.action l (a .place) (a .copies) (a .message)
 
 abbrev pub Labels : Type 0
-Labels = rules.Bench ℕ (Labelled (List ℕ))
+Labels = rules.Bench Numbers (Labelled (List ℕ))
 
 abbrev pub Rows : Type 0
 Rows = List (Option (Event (List ℕ)))

@@ -9,16 +9,15 @@ use Rattle.ground.specs.Choice.{if_then_else_}
 use Rattle.ground.specs.Cell.{isMessage, spaces}
 use Rattle.wire.specs.declared.I.{I}
 use Rattle.wire.specs.declared.J.{J}
-use Rattle.protocol.specs.Supply.{numbering}
-use Rattle.protocol.specs.Letters.{Letter, letter}
-use Rattle.protocol.specs.Ends.{nothing}
-use Rattle.protocol.specs.Bench as rules
-use Rattle.ends.specs.Means.{reportBack}
-use Rattle.ends.specs.InRules.{delivered}
+use Rattle.rules.specs.Supply.{numbering, Numbers}
+use Rattle.rules.specs.Letters.{Letter, letter}
+use Rattle.rules.specs.Ends.{nothing}
+use Rattle.rules.specs.Bench as rules
+use Rattle.ends.specs.AsRules.{reportBack, delivered}
 use Rattle.ends.specs.declared.Report.the-variants.{Refused}
 use Rattle.channels.specs.Packets.{toControllerBytes, toConsoleBytes}
 use Rattle.channels.specs.Table.{channel}
-use Rattle.bench.specs.Means.{benchOk, benchMeans, benchBack}
+use Rattle.bench.specs.AsRules.{benchOk, benchMeans, benchBack}
 use Rattle.bench.specs.declared.Bench.{Bench}
 use Rattle.bench.specs.declared.Action.{Action}
 use Rattle.bench.specs.declared.Outcome.{Outcome}
@@ -34,7 +33,7 @@ unfoldable pub benchRefused : ℕ → Bench → List ℕ → List ℕ → Result
 benchRefused n b out back = record { outcome = record { report = Refused n; message = spaces; bench = b }; out = out; back = back }
 
 -- what the rules' bench comes to, as fields and tables
-unfoldable pub benchTold : rules.Outcome ℕ (List ℕ) → Result
+unfoldable pub benchTold : rules.Outcome Numbers (List ℕ) → Result
 benchTold o =
     record {
       outcome = record { report = reportBack (o .report); message = delivered (o .report); bench = benchBack (o .after) };
@@ -56,7 +55,7 @@ benchStep b a out back = stepOf (letter (a .letter)) b a out back
 
 -- ## Fresh: any two last-used numbers; a table of another length is 2, and neither is touched
 
-abbrev pub freshRules : J → I → rules.Bench ℕ (List ℕ)
+abbrev pub freshRules : J → I → rules.Bench Numbers (List ℕ)
 freshRules j i = rules.fresh (j .0) (i .0)
 
 unfoldable pub benchFresh : J → I → List ℕ → List ℕ → Result

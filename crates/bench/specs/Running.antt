@@ -5,7 +5,7 @@ use mathlib.Core.Option.{Option, none, some}
 use lib.Dec.{ltb}
 use lib.ListN.{length, getD, take, drop, replicate}
 use Rattle.ground.specs.Choice.{if_then_else_}
-use Rattle.protocol.specs.Letters.{letter}
+use Rattle.rules.specs.Letters.{letter}
 use Rattle.letters.specs.Lines.{foundOf}
 use Rattle.letters.specs.declared.Found.{Found}
 use Rattle.letters.specs.declared.Found.the-variants as found
@@ -13,7 +13,7 @@ use Rattle.letters.specs.declared.Line.{Line}
 use Rattle.listing.specs.Record.{listRecord}
 use Rattle.listing.specs.declared.Fields.{Fields}
 use Rattle.listing.specs.declared.Uses.{Uses}
-use Rattle.bench.specs.Means.{benchBack}
+use Rattle.bench.specs.AsRules.{benchBack}
 use Rattle.bench.specs.Promise.{Result, benchRefused, benchStep, freshRules}
 use Rattle.bench.specs.Reports.{reportLine}
 use Rattle.bench.specs.declared.Action.{Action}

@@ -1,35 +1,43 @@
-// The bench: two ends, two channels, thirteen actions.
-mod asks;
+// The bench: two ends, two channels, thirteen actions. A step reads its ends into modes once (here), decides by them and moves packets (modes), with
+// the packet at the place (arriving) and the numbers of both ends (loaded).
+mod arriving;
 mod cells;
-mod inside;
-mod moves;
+mod loaded;
+mod modes;
 mod runner;
+mod traffic;
 
 use ends::Report;
-use ends::fields::Console;
-use ends::fields::Controller;
-use ends::fields::console_end;
-use ends::fields::console_of;
-use ends::fields::console_ok;
-use ends::fields::controller_end;
-use ends::fields::controller_of;
-use ends::fields::controller_ok;
-use ends::fields::fresh_console;
-use ends::fields::fresh_controller;
-use inside::Inside;
-use inside::Told;
-use inside::known;
+use ends_console::fields::Console;
+use ends_console::fields::ConsoleRead;
+use ends_console::fields::fresh_console;
+use ends_console::fields::read_console;
+use ends_controller::fields::Controller;
+use ends_controller::fields::ControllerRead;
+use ends_controller::fields::fresh_controller;
+use ends_controller::fields::read_controller;
 use letters::Found;
 use letters::Line;
+use loaded::Loaded;
+use loaded::Stepped;
+use loaded::step_known;
+use modes::ConsoleSide;
+use modes::ControllerSide;
+use modes::Modes;
 pub use runner::run;
 use wire::Direction;
 use wire::I;
 use wire::J;
 ghost use mathlib.Core.Path.{_≡_};
+ghost use mathlib.Core.Bool.{_&&_};
 ghost use Rattle.ground.specs.Cell.{spaces};
-ghost use Rattle.bench.specs.Means.{benchOk};
+ghost use Rattle.wire.specs.declared.Direction.the-variants as way;
+ghost use Rattle.letters.specs.Lines.{Lined};
+ghost use Rattle.ends_console.specs.Fields.{consoleRead};
+ghost use Rattle.ends_controller.specs.Fields.{controllerRead};
+ghost use Rattle.channels.specs.Table.{tableOk};
 ghost use Rattle.bench.specs.Promise.{benchStep, benchFresh};
-ghost use Rattle.bench.specs.Within.{Lined, Typed, insideOf, outcomeOf, linedStep};
+ghost use Rattle.bench.specs.Loaded.{Typed, loadedOf, outcomeOf, linedStep};
 
 // `sent` and `returned` count the packets in the two lent tables: on their way to the controller, and to the console.
 pub struct Bench {
@@ -63,62 +71,136 @@ fn refused(n: u8, b: Bench) -> Outcome
     }
 }
 
-// Whether all of the bench is well formed. Each table is read once.
-fn well_formed(b: Bench, out: &[u8], back: &[u8]) -> bool
-    ensures { λ r. ⌜ r ≡ benchOk b (now (out .entry)) (now (back .entry)) ⌝ }
-{
-    let console = b.console;
-    if !console_ok(console) {
-        return false;
-    }
-    let controller = b.controller;
-    if !controller_ok(controller) {
-        return false;
-    }
-    if !channels::table_ok(out, b.sent, Direction::ToController) {
-        return false;
-    }
-    channels::table_ok(back, b.returned, Direction::ToConsole)
-}
-
 // What the types of a bench say; there is nothing to run.
 fn typed(console: Console, controller: Controller)
     ensures { λ _. ⌜ Typed console controller ⌝ }
 {}
 
-fn inside_of(b: Bench) -> Inside
-    ensures { λ r. ⌜ r ≡ insideOf b ⌝ }
+// Each table is read once.
+fn tables_ok(out: &[u8], sent: usize, back: &[u8], returned: usize) -> bool
+    ensures { λ r. ⌜ r ≡ (tableOk way.ToController sent (now (out .entry)) && tableOk way.ToConsole returned (now (back .entry))) ⌝ }
 {
-    let console = b.console;
-    let held = console.message;
-    let controller = b.controller;
-    Inside {
-        console: console_end(console),
-        held,
-        controller: controller_end(controller),
-        sent: b.sent,
-        returned: b.returned,
+    if !channels::table_ok(out, sent, Direction::ToController) {
+        return false;
+    }
+    channels::table_ok(back, returned, Direction::ToConsole)
+}
+
+fn load(
+    e: ends_console::End,
+    held: [u8; 16],
+    f: ends_controller::End,
+    sent: usize,
+    returned: usize,
+) -> Loaded
+    ensures { λ r. ⌜ r ≡ loadedOf e held f sent returned ⌝ }
+{
+    let console = e.mode;
+    let controller = f.mode;
+    let first = e.numbers;
+    let second = f.numbers;
+    Loaded {
+        modes: Modes {
+            sent,
+            returned,
+            console: ConsoleSide {
+                mode: console,
+                up: e.up,
+                held,
+            },
+            controller: ControllerSide {
+                mode: controller,
+                up: f.up,
+            },
+        },
+        console: first,
+        controller: second,
     }
 }
 
-fn outcome_of(t: Told) -> Outcome
+fn outcome_of(t: Stepped) -> Outcome
     ensures { λ r. ⌜ r ≡ outcomeOf t ⌝ }
 {
     let report = t.report;
     let message = t.message;
     let after = t.after;
-    let held = after.held;
-    let console = after.console;
-    let controller = after.controller;
+    let modes = after.modes;
+    let console = modes.console;
+    let held = console.held;
+    let controller = modes.controller;
+    let mode = console.mode;
+    let numbers = after.console;
+    let first = ends_console::End {
+        numbers,
+        mode,
+        up: console.up,
+    };
+    let mode = controller.mode;
+    let numbers = after.controller;
+    let second = ends_controller::End {
+        numbers,
+        mode,
+        up: controller.up,
+    };
     Outcome {
         report,
         message,
         bench: Bench {
-            console: console_of(console, held),
-            controller: controller_of(controller),
-            sent: after.sent,
-            returned: after.returned,
+            console: ends_console::fields::console_of(first, held),
+            controller: ends_controller::fields::controller_of(second),
+            sent: modes.sent,
+            returned: modes.returned,
         },
+    }
+}
+
+// The step of a bench whose ends are well formed.
+fn ends_read(
+    b: Bench,
+    e: ends_console::End,
+    f: ends_controller::End,
+    line: Line,
+    a: Action,
+    out: &mut [u8],
+    back: &mut [u8],
+) -> Outcome
+    requires { ⌜ Lined line ⌝ }
+    requires { ⌜ consoleRead (b .console) ≡ ConsoleRead.Is e ⌝ }
+    requires { ⌜ controllerRead (b .controller) ≡ ControllerRead.Is f ⌝ }
+    ensures { λ r. ⌜ record { outcome = r; out = now (out .exit); back = now (back .exit) } ≡ linedStep b line a (now (out .entry)) (now (back .entry)) ⌝ }
+{
+    if !tables_ok(out, b.sent, back, b.returned) {
+        return refused(2, b);
+    }
+    let console = b.console;
+    let controller = b.controller;
+    typed(console, controller);
+    channels::bytes_fit(out);
+    channels::bytes_fit(back);
+    let held = console.message;
+    let loaded = load(e, held, f, b.sent, b.returned);
+    let stepped = step_known(loaded, line, a, out, back);
+    outcome_of(stepped)
+}
+
+// The step of a bench whose console is well formed.
+fn console_is_read(
+    b: Bench,
+    e: ends_console::End,
+    line: Line,
+    a: Action,
+    out: &mut [u8],
+    back: &mut [u8],
+) -> Outcome
+    requires { ⌜ Lined line ⌝ }
+    requires { ⌜ consoleRead (b .console) ≡ ConsoleRead.Is e ⌝ }
+    ensures { λ r. ⌜ record { outcome = r; out = now (out .exit); back = now (back .exit) } ≡ linedStep b line a (now (out .entry)) (now (back .entry)) ⌝ }
+{
+    let controller = b.controller;
+    let read = read_controller(controller);
+    match read {
+        ControllerRead::IllFormed => refused(2, b),
+        ControllerRead::Is(f) => ends_read(b, e, f, line, a, out, back),
     }
 }
 
@@ -127,17 +209,12 @@ fn lined_step(b: Bench, line: Line, a: Action, out: &mut [u8], back: &mut [u8]) 
     requires { ⌜ Lined line ⌝ }
     ensures { λ r. ⌜ record { outcome = r; out = now (out .exit); back = now (back .exit) } ≡ linedStep b line a (now (out .entry)) (now (back .entry)) ⌝ }
 {
-    if !well_formed(b, out, back) {
-        return refused(2, b);
-    }
     let console = b.console;
-    let controller = b.controller;
-    typed(console, controller);
-    channels::bytes_fit(out);
-    channels::bytes_fit(back);
-    let inside = inside_of(b);
-    let told = known(inside, line, a, out, back);
-    outcome_of(told)
+    let read = read_console(console);
+    match read {
+        ConsoleRead::IllFormed => refused(2, b),
+        ConsoleRead::Is(e) => console_is_read(b, e, line, a, out, back),
+    }
 }
 
 // One of the thirteen actions. `out` and `back` are the tables of the packets to the controller and to the console.

@@ -2,28 +2,28 @@
 use crate::Action;
 use crate::cells::letter_cell;
 use crate::cells::report_cells;
-use crate::inside::Inside;
-use crate::inside::Told;
-use crate::inside::known;
-use crate::inside::refused;
-use ends::console;
-use ends::controller;
+use crate::loaded::Loaded;
+use crate::loaded::Stepped;
+use crate::loaded::refused;
+use crate::loaded::step_known;
+use crate::modes::ConsoleSide;
+use crate::modes::ControllerSide;
+use crate::modes::Modes;
 use letters::Found;
 use letters::Line;
 use listing::Uses;
-use wire::I;
-use wire::J;
 ghost use Prim.Native.Nat.{_<_};
 ghost use mathlib.Core.Path.{_≡_};
 ghost use lib.ListN.{length};
 ghost use Rattle.bench.specs.Running.{limitOf, atFront, listRun};
-ghost use Rattle.bench.specs.Within.{Known, within, Lined, lineStep, recordStep, Played, linesOn, started};
+ghost use Rattle.letters.specs.Lines.{Lined};
+ghost use Rattle.bench.specs.Loaded.{Well, steppedAs, lineStep, recordStep, Played, linesOn, started};
 
 // A record whose letter has this line; one that is not well formed is 1.
-fn play_line(b: Inside, line: Line, part: &[u8], out: &mut [u8], back: &mut [u8]) -> Told
-    requires { ⌜ Known b (now out) (now back) ⌝ }
+fn play_line(b: Loaded, line: Line, part: &[u8], out: &mut [u8], back: &mut [u8]) -> Stepped
+    requires { ⌜ Well b (now out) (now back) ⌝ }
     requires { ⌜ Lined line ⌝ }
-    ensures { λ t. ⌜ within t (now (out .exit)) (now (back .exit)) ≡ lineStep b (now (out .entry)) (now (back .entry)) line (now (part .entry)) ⌝ }
+    ensures { λ t. ⌜ steppedAs t (now (out .exit)) (now (back .exit)) ≡ lineStep b (now (out .entry)) (now (back .entry)) line (now (part .entry)) ⌝ }
 {
     let uses = Uses {
         place: line.place,
@@ -39,17 +39,17 @@ fn play_line(b: Inside, line: Line, part: &[u8], out: &mut [u8], back: &mut [u8]
             copies: r.copies,
             message,
         };
-        known(b, line, a, out, back)
+        step_known(b, line, a, out, back)
     } else {
         refused(1, b)
     }
 }
 
 // A byte that is no action's letter is 1.
-fn play(b: Inside, part: &[u8], out: &mut [u8], back: &mut [u8]) -> Told
-    requires { ⌜ Known b (now out) (now back) ⌝ }
+fn play(b: Loaded, part: &[u8], out: &mut [u8], back: &mut [u8]) -> Stepped
+    requires { ⌜ Well b (now out) (now back) ⌝ }
     requires { ⌜ 0 < length (now part) ⌝ }
-    ensures { λ t. ⌜ within t (now (out .exit)) (now (back .exit)) ≡ recordStep b (now (out .entry)) (now (back .entry)) (now (part .entry)) ⌝ }
+    ensures { λ t. ⌜ steppedAs t (now (out .exit)) (now (back .exit)) ≡ recordStep b (now (out .entry)) (now (back .entry)) (now (part .entry)) ⌝ }
 {
     let found = letters::find(part[0]);
     match found {
@@ -60,14 +60,14 @@ fn play(b: Inside, part: &[u8], out: &mut [u8], back: &mut [u8]) -> Told
 
 // One record: the step, and its line.
 fn turn(
-    b: Inside,
+    b: Loaded,
     part: &[u8],
     number: usize,
     line: &mut [u8],
     out: &mut [u8],
     back: &mut [u8],
-) -> Inside
-    requires { ⌜ Known b (now out) (now back) ⌝ }
+) -> Loaded
+    requires { ⌜ Well b (now out) (now back) ⌝ }
     requires { ⌜ 0 < length (now part) ⌝ }
     requires { ⌜ length (now line) ≡ 27 ⌝ }
     ensures { λ r. ⌜ Played b (now (out .entry)) (now (back .entry)) (now (part .entry)) number r (now (line .exit)) (now (out .exit)) (now (back .exit)) ⌝ }
@@ -91,8 +91,8 @@ fn limit_of(room: usize) -> usize
 }
 
 // Gives the bytes that were written. The tables are a fresh or a known bench's.
-fn run_on(b: Inside, input: &[u8], output: &mut [u8], out: &mut [u8], back: &mut [u8]) -> usize
-    requires { ⌜ Known b (now out) (now back) ⌝ }
+fn run_on(b: Loaded, input: &[u8], output: &mut [u8], out: &mut [u8], back: &mut [u8]) -> usize
+    requires { ⌜ Well b (now out) (now back) ⌝ }
     ensures { λ r. ⌜ record { number = r; output = now (output .exit) } ≡ atFront (linesOn b (now (out .entry)) (now (back .entry)) (now (input .entry)) (length (now (output .entry)))) (now (output .entry)) ⌝ }
 {
     let limit = limit_of(output.len());
@@ -119,23 +119,25 @@ fn run_on(b: Inside, input: &[u8], output: &mut [u8], out: &mut [u8], back: &mut
 }
 
 // A fresh bench with 0 and 0.
-fn starts() -> Inside
+fn starts() -> Loaded
     ensures { λ r. ⌜ r ≡ started ⌝ }
 {
-    Inside {
-        console: console::End {
-            used: J(0),
-            mode: console::Mode::Idle,
-            up: true,
+    Loaded {
+        modes: Modes {
+            sent: 0,
+            returned: 0,
+            console: ConsoleSide {
+                mode: ends_console::Mode::Idle,
+                up: true,
+                held: [0x20; 16],
+            },
+            controller: ControllerSide {
+                mode: ends_controller::Mode::Idle,
+                up: true,
+            },
         },
-        held: [0x20; 16],
-        controller: controller::End {
-            used: I(0),
-            mode: controller::Mode::Idle,
-            up: true,
-        },
-        sent: 0,
-        returned: 0,
+        console: numbers::fresh(0),
+        controller: numbers::fresh(0),
     }
 }
 

@@ -1,5 +1,5 @@
 use borrow.Author.Needs.{needs}
-use Rattle.bench.proofs.Stepping.{freshes}
+use Rattle.bench.proofs.StepEntry.{freshes}
 use Rattle.bench.proofs.fresh.Statement.{statement}
 use Rattle.bench.proofs.fresh.Tie as tie
 

@@ -1,5 +1,5 @@
 use borrow.Author.Needs.{needs}
-use Rattle.bench.specs.Within.{outcomeOf}
+use Rattle.bench.specs.Loaded.{outcomeOf}
 use Rattle.bench.proofs.outcome_of.Statement.{statement}
 use Rattle.bench.proofs.outcome_of.Tie as tie
 

@@ -1,5 +1,5 @@
 use borrow.Author.Needs.{needs}
-use Rattle.bench.proofs.Stepping.{lined-so, step-unknown, step-lined}
+use Rattle.bench.proofs.StepEntry.{lined-so, step-unknown, step-lined}
 use Rattle.bench.proofs.step.Statement.{statement}
 use Rattle.bench.proofs.step.Tie as tie
 

@@ -1,6 +1,6 @@
 -- `bench::runner::play` meets its contract: no action has the letter, or its line is played.
 use borrow.Author.Needs.{needs}
-use Rattle.bench.proofs.Playing.{play-refused, play-line, lined-letter}
+use Rattle.bench.proofs.RecordPlayed.{play-refused, play-line, lined-letter}
 use Rattle.bench.proofs.runner.play.Statement.{statement}
 use Rattle.bench.proofs.runner.play.Tie as tie
 

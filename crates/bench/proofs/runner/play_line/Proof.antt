@@ -1,6 +1,6 @@
 -- `bench::runner::play_line` meets its contract, by whether the record is well formed.
 use borrow.Author.Needs.{needs}
-use Rattle.bench.proofs.Playing.{line-refused, line-played}
+use Rattle.bench.proofs.RecordPlayed.{line-refused, line-played}
 use Rattle.bench.proofs.runner.play_line.Statement.{statement}
 use Rattle.bench.proofs.runner.play_line.Tie as tie
 

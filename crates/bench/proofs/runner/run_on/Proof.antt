@@ -4,7 +4,7 @@ use mathlib.Core.Path.{_≡_}
 use borrow.Author.Needs.{needs}
 use lib.ListN.{length}
 use Rattle.listing.proofs.Ending.{end-from, end-within}
-use Rattle.bench.specs.Within.{Known, linesOn}
+use Rattle.bench.specs.Loaded.{Well, linesOn}
 use Rattle.bench.proofs.Running.{Along, along-first, along-turn, over-limit, over-input, record-some, line-long, limit-low, limit-roomy}
 use Rattle.bench.proofs.runner.run_on.Statement.{statement}
 use Rattle.bench.proofs.runner.run_on.Tie as tie
@@ -12,7 +12,7 @@ use Rattle.bench.proofs.runner.run_on.Tie as tie
 abbrev Inv-loop : tie.InvT-loop
 Inv-loop input output₀ out₀ back₀ limit at₀ n₀ output out back at n =
     (n ≤ limit) × (limit ≤ 9999) × (limit * 27 ≤ length output₀) × (length output ≡ length output₀) × (length out ≡ length out₀) × (length back ≡ length back₀)
-    × Known at out back × Along (linesOn at₀ out₀ back₀ input (length output₀)) input output₀ limit n at output out back
+    × Well at out back × Along (linesOn at₀ out₀ back₀ input (length output₀)) input output₀ limit n at output out back
 
 abbrev μ-loop : tie.MeasureT-loop
 μ-loop input output₀ out₀ back₀ limit at₀ n₀ output out back at n = limit - n

@@ -1,6 +1,6 @@
 -- `bench::runner::turn` meets its contract: the record is played, and its line written.
 use borrow.Author.Needs.{needs}
-use Rattle.bench.proofs.Playing.{turned}
+use Rattle.bench.proofs.RecordPlayed.{turned}
 use Rattle.bench.proofs.runner.turn.Statement.{statement}
 use Rattle.bench.proofs.runner.turn.Tie as tie
 

@@ -1,0 +1,50 @@
+-- What the rules' bench stands for as fields and tables: it passes the check, and means what it was.
+use Prim.Native.Nat.{ℕ}
+use mathlib.Core.Path.{_≡_}
+use mathlib.Core.Bool.{true}
+use mathlib.Core.List.{List}
+use Rattle.ground.specs.Cell.{isMessage}
+use Rattle.rules.specs.Supply.{Numbers, numbering}
+use Rattle.rules.specs.Bench as rules
+use Rattle.rules.specs.WellFormed.{Well-formed}
+use Rattle.ends_console.proofs.WellFormed.{ConsoleStands, console-stands}
+use Rattle.ends_controller.proofs.WellFormed.{ControllerStands, controller-stands}
+use Rattle.channels.specs.Packets.{toControllerBytes, toConsoleBytes}
+use Rattle.channels.specs.Table.{channel}
+use Rattle.channels.proofs.Channel.{channel-ok, packets-channel}
+use Rattle.channels.proofs.Packets.{to-controller-coded, to-console-coded}
+use Rattle.bench.specs.AsRules.{benchOk, benchMeans, benchBack}
+
+module _ (b : rules.Bench Numbers (List ℕ)) (w : Well-formed numbering isMessage b) where
+  abbrev out : List ℕ
+  out = channel toControllerBytes (b .toController)
+
+  abbrev back : List ℕ
+  back = channel toConsoleBytes (b .toConsole)
+
+  abbrev c : ConsoleStands (b .console)
+  c = console-stands (b .console) (w .console)
+
+  abbrev d : ControllerStands (b .controller)
+  d = controller-stands (b .controller) (w .controller)
+
+  pub stands-ok : benchOk (benchBack b) out back ≡ true
+  unfolding benchOk benchBack
+  stands-ok =
+      rw (
+        c .0,
+        d .0,
+        channel-ok to-controller-coded (b .toController) (w .to-controller) (w .to-controller-room),
+        channel-ok to-console-coded (b .toConsole) (w .to-console) (w .to-console-room),
+      )
+
+  pub stands-for : benchMeans (benchBack b) out back ≡ b
+  unfolding benchMeans benchBack
+  stands-for =
+      λ i.
+      record {
+        console = c .1 i;
+        controller = d .1 i;
+        toController = packets-channel to-controller-coded (b .toController) (w .to-controller) i;
+        toConsole = packets-channel to-console-coded (b .toConsole) (w .to-console) i;
+      }

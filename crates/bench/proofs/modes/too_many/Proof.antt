@@ -1,0 +1,10 @@
+use borrow.Author.Needs.{needs}
+use Rattle.bench.proofs.modes.too_many.Statement.{statement}
+use Rattle.bench.proofs.modes.too_many.Tie as tie
+
+pub too-many-spec : {M : Type 1} → statement M
+too-many-spec =
+    tie.close
+    (tie.spec
+    (λ c. rw (c .if1 .taken))
+    (λ c. search needs))

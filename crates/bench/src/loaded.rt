@@ -1,0 +1,164 @@
+// A bench by its modes, with the numbers of both ends: the thin layer that offers and moves them.
+use crate::Action;
+use crate::arriving::for_the_console;
+use crate::arriving::for_the_controller;
+use crate::modes::Modes;
+use crate::modes::Offered;
+use crate::modes::Told;
+use crate::modes::console_asked;
+use crate::modes::controller_asked;
+use crate::modes::loses;
+use crate::modes::too_many;
+use ends::ForController;
+use ends::Report;
+use ends_controller::acts::is_unknown;
+use letters::Asks;
+use letters::ConsoleAsk;
+use letters::ControllerAsk;
+use letters::Line;
+use numbers::Numbers;
+use wire::I;
+use wire::J;
+ghost use mathlib.Core.Path.{_≡_};
+ghost use Rattle.ground.specs.Cell.{spaces};
+ghost use Rattle.letters.specs.Lines.{Lined};
+ghost use Rattle.bench.specs.ByModes.{Few};
+ghost use Rattle.bench.specs.Loaded.{Well, offeredBy, movedBy, steppedAs, loadedStep};
+
+pub struct Loaded {
+    pub modes: Modes,
+    pub console: Numbers,
+    pub controller: Numbers,
+}
+
+pub struct Stepped {
+    pub report: Report,
+    pub message: [u8; 16],
+    pub after: Loaded,
+}
+
+pub(crate) fn refused(n: u8, b: Loaded) -> Stepped
+    ensures { λ r. ⌜ r ≡ record { report = Report.Refused n; message = spaces; after = b } ⌝ }
+{
+    Stepped {
+        report: Report::Refused(n),
+        message: [0x20; 16],
+        after: b,
+    }
+}
+
+fn offers(console: Numbers, controller: Numbers, came: ForController) -> Offered
+    ensures { λ r. ⌜ r ≡ offeredBy console controller came ⌝ }
+{
+    Offered {
+        j: J(numbers::next(console)),
+        i: I(numbers::next(controller)),
+        unknown: is_unknown(controller, came),
+    }
+}
+
+fn moved(console: Numbers, controller: Numbers, told: Told) -> Stepped
+    ensures { λ r. ⌜ r ≡ movedBy console controller told ⌝ }
+{
+    let report = told.report;
+    let message = told.message;
+    let modes = told.after;
+    let first = told.console;
+    let second = told.controller;
+    Stepped {
+        report,
+        message,
+        after: Loaded {
+            modes,
+            console: numbers::after(console, first),
+            controller: numbers::after(controller, second),
+        },
+    }
+}
+
+// What the console is asked.
+fn console_step(
+    b: Loaded,
+    ask: ConsoleAsk,
+    line: Line,
+    a: Action,
+    out: &mut [u8],
+    back: &mut [u8],
+) -> Stepped
+    requires { ⌜ Well b (now out) (now back) ⌝ }
+    requires { ⌜ Few line a ⌝ }
+    requires { ⌜ line .asks ≡ Asks.Console ask ⌝ }
+    ensures { λ r. ⌜ steppedAs r (now (out .exit)) (now (back .exit)) ≡ loadedStep b (now (out .entry)) (now (back .entry)) line a ⌝ }
+{
+    let modes = b.modes;
+    let came = for_the_console(ask, a.place, back, modes.returned);
+    let console = b.console;
+    let controller = b.controller;
+    let packet = came.controller;
+    let next = offers(console, controller, packet);
+    let told = console_asked(modes, next, came, ask, line, a, out, back);
+    moved(console, controller, told)
+}
+
+// What the controller is asked.
+fn controller_step(
+    b: Loaded,
+    ask: ControllerAsk,
+    line: Line,
+    a: Action,
+    out: &mut [u8],
+    back: &mut [u8],
+) -> Stepped
+    requires { ⌜ Well b (now out) (now back) ⌝ }
+    requires { ⌜ Few line a ⌝ }
+    requires { ⌜ line .asks ≡ Asks.Controller ask ⌝ }
+    ensures { λ r. ⌜ steppedAs r (now (out .exit)) (now (back .exit)) ≡ loadedStep b (now (out .entry)) (now (back .entry)) line a ⌝ }
+{
+    let modes = b.modes;
+    let came = for_the_controller(ask, a.place, out, modes.sent);
+    let console = b.console;
+    let controller = b.controller;
+    let packet = came.controller;
+    let next = offers(console, controller, packet);
+    let told = controller_asked(modes, next, came, ask, line, a, out, back);
+    moved(console, controller, told)
+}
+
+// A packet lost asks no end.
+fn losing_step(b: Loaded, line: Line, a: Action, out: &mut [u8], back: &mut [u8]) -> Stepped
+    requires { ⌜ Well b (now out) (now back) ⌝ }
+    requires { ⌜ Few line a ⌝ }
+    requires { ⌜ line .asks ≡ Asks.NoEnd ⌝ }
+    ensures { λ r. ⌜ steppedAs r (now (out .exit)) (now (back .exit)) ≡ loadedStep b (now (out .entry)) (now (back .entry)) line a ⌝ }
+{
+    let modes = b.modes;
+    let console = b.console;
+    let controller = b.controller;
+    let next = offers(console, controller, ForController::Nothing);
+    let told = loses(modes, next, line, a, out, back);
+    moved(console, controller, told)
+}
+
+// The step of a bench that is known to be well formed, of a letter's line of the table. Each arm has its own way to the end, so that what the others
+// need is not carried along.
+pub(crate) fn step_known(
+    b: Loaded,
+    line: Line,
+    a: Action,
+    out: &mut [u8],
+    back: &mut [u8],
+) -> Stepped
+    requires { ⌜ Well b (now out) (now back) ⌝ }
+    requires { ⌜ Lined line ⌝ }
+    ensures { λ r. ⌜ steppedAs r (now (out .exit)) (now (back .exit)) ≡ loadedStep b (now (out .entry)) (now (back .entry)) line a ⌝ }
+{
+    if too_many(line.copies, a.copies) {
+        return refused(10, b);
+    }
+    let asks = line.asks;
+    match asks {
+        Asks::Console(ask) => console_step(b, ask, line, a, out, back),
+        Asks::Controller(ask) => controller_step(b, ask, line, a, out, back),
+        Asks::NoEnd => losing_step(b, line, a, out, back),
+    }
+}

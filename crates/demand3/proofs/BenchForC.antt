@@ -1,83 +1,57 @@
 -- Demand 3 of the bench for C, from that of the bench's step: through its bytes the state is, call after call, the fields that the bench comes to.
 use Prim.Native.Nat.{ℕ, _<_, _≤_, _^_}
 use mathlib.Core.Path.{_≡_, refl, sym, ap, ap₂, _∙_}
-use mathlib.Core.Bool.{Bool, true, false, false≢true}
+use mathlib.Core.Bool.{true, false, false≢true}
 use mathlib.Core.Option.{Option}
 use mathlib.Core.List.{List, [], _∷_}
 use native.Mathlib.Omega.{arith}
-use borrow.Author.Tests.{eq-eqb, ne-eqb, leb-true, le-leb}
-use lib.Dec.{leb}
+use borrow.Author.Tests.{eq-eqb, ne-eqb}
 use lib.ListN.{length}
 use Rattle.ground.specs.Cell.{isMessage}
 use Rattle.ground.specs.Choice.{if_then_else_}
-use Rattle.ground.proofs.Tests.{by-test, and-right}
+use Rattle.ground.proofs.Tests.{by-test}
 use Rattle.wire.specs.declared.I.{I}
 use Rattle.wire.specs.declared.J.{J}
-use Rattle.protocol.specs.Supply.{numbering, largest}
-use Rattle.protocol.specs.Ends as ends
-use Rattle.protocol.specs.Bench as rules
-use Rattle.protocol.specs.Bears.{Console-bears, Controller-bears}
-use Rattle.protocol.specs.Log.{Event}
-use Rattle.protocol.specs.Plain.{Plain}
-use Rattle.protocol.specs.Demand3.{written}
-use Rattle.protocol.specs.WellFormed.{Number, Given, Good, Well-formed}
-use Rattle.protocol.proofs.Plain.{right-plain}
-use Rattle.protocol.proofs.WellFormed.{fresh-well-formed}
-use Rattle.ends.specs.InRules.{consoleBack, controllerBack}
-use Rattle.ends.proofs.Telling.{number}
+use Rattle.rules.specs.Supply.{numbering, Numbers}
+use Rattle.rules.specs.Bench as rules
+use Rattle.rules.specs.Log.{Event}
+use Rattle.rules.specs.Plain.{Plain}
+use Rattle.rules.specs.Demand3.{written}
+use Rattle.rules.specs.WellFormed.{Well-formed}
+use Rattle.rules.proofs.Plain.{right-plain}
+use Rattle.rules.proofs.WellFormed.{fresh-well-formed}
+use Rattle.numbers.proofs.Range.{sound-is}
+use Rattle.ends.specs.AsRules.{numberIn}
 use Rattle.ends.specs.declared.Report.{Report}
 use Rattle.ends.specs.declared.Report.the-variants as report
-use Rattle.bench.specs.Means.{benchBack}
+use Rattle.bench.specs.AsRules.{benchBack}
 use Rattle.bench.specs.Promise.{Result, benchTold, benchStep, benchFresh, freshRules}
 use Rattle.bench.specs.Orders.{outcomes, freshOutcomes, shownBy, allShown, Rows, rowsOf}
 use Rattle.bench.specs.declared.Action.{Action}
 use Rattle.bench.specs.declared.Bench.{Bench}
-use Rattle.bench.proofs.Leaving.{message-long, Leaves, step-leaves}
+use Rattle.bench.proofs.StepLeaves.{Leaves, step-leaves}
 use Rattle.bench.proofs.Orders.{out, back, orders-right}
-use Rattle.boxes.specs.Controller.{deliveredTo}
-use Rattle.boxes.specs.State as state
-use Rattle.boxes.specs.State.{isRefusal, marks, told}
-use Rattle.boxes.specs.Benches.{benchBytes, benchAt, BenchPut, freshPut, stepPut, stepDelivered}
-use Rattle.boxes.proofs.BenchTrips.{bench-read-back, bench-step-leaves}
-use Rattle.boxes.proofs.ConsoleTrips as console
-use Rattle.boxes.proofs.ControllerTrips as controller
+use Rattle.boundary.specs.Controller.{deliveredTo}
+use Rattle.boundary.specs.State as state
+use Rattle.boundary.specs.State.{isRefusal, marks, told}
+use Rattle.boundary.specs.Benches.{benchBytes, benchAt, BenchPut, freshPut, stepPut}
+use Rattle.boundary.proofs.BenchTrips.{bench-read-back, bench-step-leaves}
+use Rattle.boundary.proofs.ConsoleWellFormed as console
+use Rattle.boundary.proofs.ControllerWellFormed as controller
 use Rattle.demand3.specs.BenchForC.{Call, Seen, calls, freshCalls, byteSays, callsShow, actionsOf, CallsRight}
 
 -- ## Where the rules' bench stands, its bytes read back
 
-pub small : (n : ℕ) → leb n largest ≡ true → n < 2 ^ 32
-small n h = let k = leb-true n largest h in omega (arith, k)
-
-number-small : (n : ℕ) → Number numbering n → n < 2 ^ 32
-number-small n h = small n (and-right (leb 1 n) (leb n largest) h)
-
-pub console-typed : (u : ℕ) (k : ends.ConsoleMode (List ℕ)) (up : Bool) → leb u largest ≡ true → Console-bears (Given numbering u) (Number numbering) (Good isMessage) k
-    → console.Typed (consoleBack (record { numbers = u; mode = k; up = up }))
-console-typed u ends.ConsoleMode.idle up s h = record { used = small u s; j = omega arith; last = omega arith; message = refl }
-console-typed u (ends.in-needI j m) up s h =
-    record { used = small u s; j = number-small j (h .0 .0); last = omega arith; message = message-long m (h .1) }
-console-typed u (ends.in-send l m) up s h =
-    record { used = small u s; j = omega arith; last = number-small l (h .0); message = message-long m (h .1) }
-
-pub controller-typed : (u : ℕ) (k : ends.ControllerMode) (up : Bool) → leb u largest ≡ true → Controller-bears (Number numbering) (Given numbering u) k
-    → controller.Typed (controllerBack (record { numbers = u; mode = k; up = up }))
-controller-typed u ends.ControllerMode.idle up s h =
-    record { used = small u s; j = omega arith; i = omega arith; last = omega arith }
-controller-typed u (ends.in-accept j i) up s h =
-    record { used = small u s; j = number-small j (h .0); i = number-small i (h .1 .0); last = omega arith }
-controller-typed u (ends.in-ack l) up s h =
-    record { used = small u s; j = omega arith; i = omega arith; last = number-small l (h .0) }
-
-abbrev kept : rules.Bench ℕ (List ℕ) → List ℕ
+abbrev kept : rules.Bench Numbers (List ℕ) → List ℕ
 kept b = benchBytes (benchBack b)
 
-module _ (b : rules.Bench ℕ (List ℕ)) (w : Well-formed numbering isMessage b) where
+module _ (b : rules.Bench Numbers (List ℕ)) (w : Well-formed numbering isMessage b) where
   reads-back : benchAt (kept b) ≡ benchBack b
   unfolding benchBack
   reads-back =
       bench-read-back (benchBack b)
-      (console-typed (b .console .numbers) (b .console .mode) (b .console .up) (w .console .numbers) (w .console .mode))
-      (controller-typed (b .controller .numbers) (b .controller .mode) (b .controller .up) (w .controller .numbers) (w .controller .mode))
+      (console.fields-left (b .console) (w .console) .1)
+      (controller.fields-left (b .controller) (w .controller) .1)
       (w .to-controller-room) (w .to-console-room)
 
 -- ## One call
@@ -101,14 +75,14 @@ delivered-shows a report.Ok m d = refl
 delivered-shows a report.Lost m d = refl
 delivered-shows a (report.Refused n) m d = refl
 
-is-refused : (r : Report) → isRefusal r ≡ true → r ≡ report.Refused (number r)
+is-refused : (r : Report) → isRefusal r ≡ true → r ≡ report.Refused (numberIn r)
 is-refused report.Nothing e = absurd (false≢true e)
 is-refused report.Delivered e = absurd (false≢true e)
 is-refused report.Ok e = absurd (false≢true e)
 is-refused report.Lost e = absurd (false≢true e)
 is-refused (report.Refused n) e = refl
 
-module _ (b : rules.Bench ℕ (List ℕ)) (w : Well-formed numbering isMessage b) (a : Action) where
+module _ (b : rules.Bench Numbers (List ℕ)) (w : Well-formed numbering isMessage b) (a : Action) where
   abbrev result : Result
   result = benchStep (benchBack b) a (out b) (back b)
 
@@ -119,17 +93,17 @@ module _ (b : rules.Bench ℕ (List ℕ)) (w : Well-formed numbering isMessage b
   same = ap (λ (x : Bench). benchStep x a (out b) (back b)) (reads-back b w)
 
   -- the state that it leaves
-  state-left : (v : Leaves b result) → stepPut (kept b) a (out b) (back b) .state ≡ kept (v .after)
+  state-left : (v : Leaves b result) (d : List ℕ) → stepPut (kept b) a (out b) (back b) d .state ≡ kept (v .after)
   unfolding if_then_else_
-  state-left v =
+  state-left v d =
       let r = through .outcome .report in
       by-test (isRefusal r)
-      (λ t. rw t (ap kept (sym (v .kept (number r) (sym (ap (λ (x : Result). x .outcome .report) same) ∙ is-refused r t)))))
-      (λ f. bench-step-leaves (kept b) a (out b) (back b) f ∙ ap (λ (x : Result). benchBytes (x .outcome .bench)) same ∙ ap benchBytes (v .bench-is))
+      (λ t. rw t (ap kept (sym (v .kept (numberIn r) (sym (ap (λ (x : Result). x .outcome .report) same) ∙ is-refused r t)))))
+      (λ f. bench-step-leaves (kept b) a (out b) (back b) d f ∙ ap (λ (x : Result). benchBytes (x .outcome .bench)) same ∙ ap benchBytes (v .bench-is))
 
   -- the row that it shows
   row-shown : (v : Leaves b result) (d : List ℕ)
-      → shownBy a (byteSays (stepPut (kept b) a (out b) (back b) .told)) (stepDelivered (kept b) a (out b) (back b) d) ≡ shownBy a (result .outcome .report) (result .outcome .message)
+      → shownBy a (byteSays (stepPut (kept b) a (out b) (back b) d .told)) (stepPut (kept b) a (out b) (back b) d .delivered) ≡ shownBy a (result .outcome .report) (result .outcome .message)
   row-shown v d =
       let r = result .outcome .report in
       ap (λ (x : Result). shownBy a (byteSays (told (x .outcome .report) false false)) (deliveredTo (x .outcome .report) (x .outcome .message) d)) same
@@ -138,7 +112,7 @@ module _ (b : rules.Bench ℕ (List ℕ)) (w : Well-formed numbering isMessage b
 
 -- ## All calls
 
-calls-show : (b : rules.Bench ℕ (List ℕ)) → Well-formed numbering isMessage b → (l : List Call)
+calls-show : (b : rules.Bench Numbers (List ℕ)) → Well-formed numbering isMessage b → (l : List Call)
     → callsShow l (calls (kept b) (out b) (back b) l) ≡ allShown (actionsOf l) (outcomes (benchBack b) (out b) (back b) (actionsOf l))
 unfolding callsShow calls outcomes allShown
 calls-show b w [] = refl
@@ -146,8 +120,9 @@ calls-show b w (c ∷ l) =
     let a = c .action in
     let v = step-leaves b w a in
     let q = same b w a in
-    let next : _≡_ {A = List Seen} (calls (stepPut (kept b) a (out b) (back b) .state) (stepPut (kept b) a (out b) (back b) .out) (stepPut (kept b) a (out b) (back b) .back) l) (calls (kept (v .after)) (out (v .after)) (back (v .after)) l) =
-    λ i. calls (state-left b w a v i) ((ap (λ (x : Result). x .out) q ∙ v .out-is) i) ((ap (λ (x : Result). x .back) q ∙ v .back-is) i) l in
+    let p = stepPut (kept b) a (out b) (back b) (c .lent) in
+    let next : _≡_ {A = List Seen} (calls (p .state) (p .out) (p .back) l) (calls (kept (v .after)) (out (v .after)) (back (v .after)) l) =
+    λ i. calls (state-left b w a v (c .lent) i) ((ap (λ (x : Result). x .out) q ∙ v .out-is) i) ((ap (λ (x : Result). x .back) q ∙ v .back-is) i) l in
     let later : outcomes (result b w a .outcome .bench) (result b w a .out) (result b w a .back) (actionsOf l) ≡ outcomes (benchBack (v .after)) (out (v .after)) (back (v .after)) (actionsOf l) =
     λ i. outcomes (v .bench-is i) (v .out-is i) (v .back-is i) (actionsOf l) in
     ap₂ (λ (x : Option (Event (List ℕ))) (xs : Rows). x ∷ xs) (row-shown b w a v (c .lent))
@@ -156,7 +131,7 @@ calls-show b w (c ∷ l) =
 -- ## From `nooseless_bench_fresh` on: any two numbers, any state of 49 bytes, any tables of 2,048 bytes, any calls
 
 module _ (j : J) (i : I) (s out₀ back₀ : List ℕ) (p : j .0 < 2 ^ 32) (q : i .0 < 2 ^ 32) (k : length s ≡ 49) (m : length out₀ ≡ 2048) (n : length back₀ ≡ 2048) (l : List Call) where
-  abbrev b : rules.Bench ℕ (List ℕ)
+  abbrev b : rules.Bench Numbers (List ℕ)
   b = freshRules j i
 
   fresh-put : freshPut j i s out₀ back₀ ≡ record { told = 0; state = kept b; out = out b; back = back b }
@@ -168,7 +143,7 @@ module _ (j : J) (i : I) (s out₀ back₀ : List ℕ) (p : j .0 < 2 ^ 32) (q : 
   fresh-told = rw (eq-eqb (length out₀) 2048 m, eq-eqb (length back₀) 2048 n)
 
   fresh-ok : Well-formed numbering isMessage b
-  fresh-ok = fresh-well-formed numbering isMessage (j .0) (i .0) (le-leb (j .0) largest (omega (arith, p))) (le-leb (i .0) largest (omega (arith, q)))
+  fresh-ok = fresh-well-formed numbering isMessage (j .0) (i .0) (sound-is (j .0) p) (sound-is (i .0) q)
 
   pub calls-right : CallsRight j i s out₀ back₀ l
   unfolding freshCalls

@@ -1,66 +1,67 @@
 -- Demand 3 of two boxes over any radio, as they run: step by step they do what the rules' ends do over the radio.
-use Prim.Native.Nat.{ℕ, suc, _<_, _^_}
+use Prim.Native.Nat.{ℕ, _<_, _^_}
 use mathlib.Core.Path.{_≡_, refl, sym, ap, subst, _∙_}
 use mathlib.Core.Logic.{_⊎_, inl, inr}
-use mathlib.Core.Bool.{Bool, true, false, not}
+use mathlib.Core.Bool.{Bool, true, not}
 use mathlib.Core.Option.{Option, none, some, Option·map, Option·none-ne-some}
 use mathlib.Core.List.{List, [], _∷_, _++_, map, append-nil}
-use native.Mathlib.Omega.{arith}
 use lib.Dec.{eqb}
-use borrow.Author.Tests.{le-leb}
-use Rattle.ground.specs.Cell.{isMessage, spaces}
+use Rattle.ground.specs.Cell.{isMessage}
 use Rattle.ground.specs.First.{refusal}
-use Rattle.wire.specs.Packet.{packetRead, packetBytes}
+use Rattle.wire.specs.Packet.{packetRead}
 use Rattle.wire.specs.declared.I.{I}
 use Rattle.wire.specs.declared.J.{J}
-use Rattle.protocol.specs.Supply.{numbering, largest}
-use Rattle.protocol.specs.Letters as letters
-use Rattle.protocol.specs.Letters.{Letter, letter, line, among}
-use Rattle.protocol.specs.Ends as rules
-use Rattle.protocol.specs.Bench as bench
-use Rattle.protocol.specs.Bench.{Asked, at, copies-of, asks}
-use Rattle.protocol.specs.Relabel.{in-packet}
-use Rattle.protocol.specs.Lists.{All, In}
-use Rattle.protocol.specs.Log as log
-use Rattle.protocol.specs.Log.{Right, labelled}
-use Rattle.protocol.specs.Plain.{Plain}
-use Rattle.protocol.specs.Demand3.{row, write, written, unnumbered, shown}
-use Rattle.protocol.specs.Radio as radio
-use Rattle.protocol.specs.Radio.{Link, Happening, aired, keeps, fails, happens, shown-of, rows-shown, rows-left, radio-log}
-use Rattle.protocol.proofs.Supply.{numbering-lawful}
-use Rattle.protocol.proofs.Lists.{if-holds}
-use Rattle.protocol.proofs.Relabel.{map-append}
-use Rattle.protocol.proofs.Ends.{console-reports}
-use Rattle.protocol.proofs.Plain.{right-plain}
-use Rattle.protocol.proofs.Radio.{radio-right}
-use Rattle.protocol.proofs.RadioWellFormed.{Link-ok, happens-ok, start-ok}
-use Rattle.protocol.proofs.BenchOnRadio.{place-of}
-use Rattle.ends.specs.InRules.{consoleMeans, consoleBack, controllerMeans, controllerBack, delivered}
-use Rattle.ends.specs.Means.{reportBack, forConsole, forController, toConsole, toController}
+use Rattle.rules.specs.Supply.{numbering, Numbers}
+use Rattle.rules.specs.Letters as letters
+use Rattle.rules.specs.Letters.{Letter, letter}
+use Rattle.rules.specs.Ends as rules
+use Rattle.rules.specs.Bench as bench
+use Rattle.rules.specs.Bench.{Asked, at, copies-of, asks}
+use Rattle.rules.specs.Relabel.{in-packet}
+use Rattle.rules.specs.Lists.{In}
+use Rattle.rules.specs.Log as log
+use Rattle.rules.specs.Plain.{Plain}
+use Rattle.rules.specs.Demand3.{write, written, unnumbered, shown}
+use Rattle.rules.specs.Radio as radio
+use Rattle.rules.specs.Radio.{Link, Happening, aired, keeps, fails, happens, shown-of, rows-shown, rows-left, radio-log}
+use Rattle.rules.proofs.Supply.{numbering-lawful}
+use Rattle.rules.proofs.Lists.{if-holds}
+use Rattle.rules.proofs.Relabel.{map-append}
+use Rattle.rules.proofs.Ends.{console-reports}
+use Rattle.rules.proofs.Plain.{right-plain}
+use Rattle.rules.proofs.Radio.{radio-right}
+use Rattle.rules.proofs.RadioWellFormed.{Link-ok, happens-ok, start-ok}
+use Rattle.rules.proofs.BenchOnRadio.{place-of}
+use Rattle.numbers.proofs.Range.{sound-is}
+use Rattle.ends_console.specs.Fields.{lastUsedJ}
+use Rattle.ends_controller.specs.Fields.{lastUsedI}
+use Rattle.ends_console.specs.FieldsAsRules.{consoleBack}
+use Rattle.ends_controller.specs.FieldsAsRules.{controllerBack}
+use Rattle.ends_console.proofs.WellFormed.{ConsoleStands, console-stands}
+use Rattle.ends_controller.proofs.WellFormed.{ControllerStands, controller-stands}
+use Rattle.ends.specs.AsRules.{reportBack, delivered, forConsole, forController, toConsole, toController}
 use Rattle.ends.specs.Packets.{toControllerPacket, toConsolePacket, readForConsole, readForController}
 use Rattle.ends.specs.declared.ForConsole.{ForConsole}
 use Rattle.ends.specs.declared.ForConsole.the-variants as for-console
 use Rattle.ends.specs.declared.ForController.{ForController}
 use Rattle.ends.specs.declared.ForController.the-variants as for-controller
 use Rattle.alone.specs.Alone.{replied}
-use Rattle.alone.specs.ConsoleAlone.{ConsoleAlone, consoleRefused, consoleTold, consoleAlone}
-use Rattle.alone.specs.ControllerAlone.{ControllerAlone, controllerRefused, controllerTold, controllerAlone}
+use Rattle.alone.specs.ConsoleAlone.{ConsoleAlone, consoleRefused, consoleTold}
+use Rattle.alone.specs.ControllerAlone.{ControllerAlone, controllerRefused, controllerTold}
 use Rattle.alone.proofs.Calls.{consoleHeard, ConsoleCall, console-call, controllerHeardAs, ControllerCall, controller-call}
 use Rattle.channels.specs.Packets.{toControllerBytes, controllerCame, toControllerRead, toConsoleBytes, consoleCame, toConsoleRead}
 use Rattle.channels.proofs.Packets.{to-controller-coded, to-console-coded}
-use Rattle.bench.specs.Orders.{shownBy}
-use Rattle.bench.proofs.Standing.{ConsoleStands, console-stands, ControllerStands, controller-stands}
 use Rattle.demand3.specs.Boxes.{Boxes, Reach, through, kept-and-cut, cut, Event, at-console, at-controller, leaves, consoleGoes, controllerGoes, after, start, called, consoleShows, controllerShows, shows, allShown, isForConsole, isForController, Honest, AllHonest, BoxesRight}
 use Rattle.demand3.proofs.Lists.{in-map, all-in, map-written}
 
 abbrev pub Row : Type 0
 Row = List ℕ
 
-abbrev pub Ok : Link ℕ Row → Type 0
+abbrev pub Ok : Link Numbers Row → Type 0
 Ok k = Link-ok numbering isMessage k
 
 -- the boxes that a link of the rules stands for
-abbrev pub boxesOf : Link ℕ Row → Boxes
+abbrev pub boxesOf : Link Numbers Row → Boxes
 boxesOf k =
     record {
       console = consoleBack (k .bench .console);
@@ -83,7 +84,7 @@ unfolding rules.absent
 controller-came for-controller.Nothing m q e = absurd (Option·none-ne-some q e)
 controller-came (for-controller.Packet t) m q e = let same : in-packet (λ _. m) (toController t) ≡ q = cc in (same, refl)
 
-module _ (k : Link ℕ Row) (ok : Ok k) (p : List ℕ) where
+module _ (k : Link Numbers Row) (ok : Ok k) (p : List ℕ) where
   console-finds : (isForConsole p ≡ true → In p (map toConsoleBytes (k .bench .toConsole))) → (q : rules.ToConsole) → consoleHeard p ≡ some q
       → (x : ℕ) × (at (k .bench .toConsole) x ≡ some q)
   unfolding toConsoleRead rules.absent
@@ -103,12 +104,12 @@ module _ (k : Link ℕ Row) (ok : Ok k) (p : List ℕ) where
       let x = place-of (i .0) (k .bench .toController) (i .1 .0) in
       (x .0, x .1 ∙ ap some (sym same))
 
-module _ (k : Link ℕ Row) (ok : Ok k) where
+module _ (k : Link Numbers Row) (ok : Ok k) where
   console-fine : ConsoleStands (k .bench .console)
-  console-fine = let e = k .bench .console in console-stands (e .numbers) (e .mode) (e .up) (ok .console .mode)
+  console-fine = console-stands (k .bench .console) (ok .console)
 
   controller-fine : ControllerStands (k .bench .controller)
-  controller-fine = let e = k .bench .controller in controller-stands (e .numbers) (e .mode) (e .up) (ok .controller .mode)
+  controller-fine = controller-stands (k .bench .controller) (ok .controller)
 
 -- ## What a step shows
 
@@ -120,10 +121,10 @@ No-delivery rules.answered-ok = Unit {0}
 No-delivery rules.answered-lost = Unit {0}
 No-delivery (rules.refused n) = Unit {0}
 
-console-delivers-nothing : (e : rules.Console ℕ Row) (act : rules.ConsoleAct Row) → No-delivery (rules.console-step numbering isMessage e act .report)
+console-delivers-nothing : (e : rules.Console Numbers Row) (act : rules.ConsoleAct Row) → No-delivery (rules.console-step numbering isMessage e act .report)
 unfolding rules.console-step
 console-delivers-nothing e act =
-    if-holds (λ (d : rules.ConsoleActed ℕ Row). No-delivery (d .report)) (eqb (refusal (rules.console-rules numbering isMessage e act)) 0) _ _
+    if-holds (λ (d : rules.ConsoleActed Numbers Row). No-delivery (d .report)) (eqb (refusal (rules.console-rules numbering isMessage e act)) 0) _ _
     (λ p. console-reports No-delivery tt tt tt numbering e act) (λ p. tt)
 
 console-shown : (byte x : ℕ) (m : Row) (l : Letter) → letter byte ≡ some l → (r : rules.Report Row) → No-delivery r → shown (bench.action l x 0 m) r ≡ called byte m (reportBack r) []
@@ -156,46 +157,46 @@ to-console-leaves (some q) y l = sym (map-append toConsoleBytes l (q ∷ []))
 
 -- ## The kept record is the end's
 
-pub console-used : (e : rules.Console ℕ Row) → consoleBack e .used ≡ record { 0 = e .numbers }
+pub console-used : (e : rules.Console Numbers Row) → lastUsedJ (consoleBack e) ≡ record { 0 = e .numbers }
 console-used e = of (e .mode) (e .numbers) (e .up)
   where
-    of : (x : rules.ConsoleMode Row) (n : ℕ) (up : Bool) → consoleBack (record { numbers = n; mode = x; up = up }) .used ≡ record { 0 = n }
+    of : (x : rules.ConsoleMode Row) (n : Numbers) (up : Bool) → lastUsedJ (consoleBack (record { numbers = n; mode = x; up = up })) ≡ record { 0 = n }
     of rules.ConsoleMode.idle n up = refl
     of (rules.in-needI j m) n up = refl
     of (rules.in-send l m) n up = refl
 
-pub controller-used : (e : rules.Controller ℕ) → controllerBack e .used ≡ record { 0 = e .numbers }
+pub controller-used : (e : rules.Controller Numbers) → lastUsedI (controllerBack e) ≡ record { 0 = e .numbers }
 controller-used e = of (e .mode) (e .numbers) (e .up)
   where
-    of : (x : rules.ControllerMode) (n : ℕ) (up : Bool) → controllerBack (record { numbers = n; mode = x; up = up }) .used ≡ record { 0 = n }
+    of : (x : rules.ControllerMode) (n : Numbers) (up : Bool) → lastUsedI (controllerBack (record { numbers = n; mode = x; up = up })) ≡ record { 0 = n }
     of rules.ControllerMode.idle n up = refl
     of (rules.in-accept j i) n up = refl
     of (rules.in-ack l) n up = refl
 
 -- between two steps each box has kept what its end has
-pub record Kept (k : Link ℕ Row) : Type 0 where
+pub record Kept (k : Link Numbers Row) : Type 0 where
   pub console : k .console-kept ≡ k .bench .console .numbers
   pub controller : k .controller-kept ≡ k .bench .controller .numbers
 
-aired-kept : (k : Link ℕ Row) (x : Asked Row) → Kept k → let o = aired numbering isMessage (k .bench) x in Kept (radio.goes-on (o .after) (keeps x (o .after) k))
+aired-kept : (k : Link Numbers Row) (x : Asked Row) → Kept k → let o = aired numbering isMessage (k .bench) x in Kept (radio.goes-on (o .after) (keeps x (o .after) k))
 unfolding aired keeps
 aired-kept k (Asked.console act) h = record { console = refl; controller = h .controller }
 aired-kept k (Asked.controller act) h = record { console = h .console; controller = refl }
 aired-kept k bench.no-end h = h
 
-fails-kept : (x : Asked Row) (k : Link ℕ Row) → (Kept k → Kept (fails x k))
+fails-kept : (x : Asked Row) (k : Link Numbers Row) → (Kept k → Kept (fails x k))
 unfolding fails
 fails-kept (Asked.console act) k h = record { console = refl; controller = h .controller }
 fails-kept (Asked.controller act) k h = record { console = h .console; controller = refl }
 fails-kept bench.no-end k h = h
 
-kept-fails : (x : Asked Row) (b : bench.Bench ℕ Row) (k : Link ℕ Row) → Kept k → Kept (fails x (keeps x b k))
+kept-fails : (x : Asked Row) (b : bench.Bench Numbers Row) (k : Link Numbers Row) → Kept k → Kept (fails x (keeps x b k))
 unfolding fails keeps
 kept-fails (Asked.console act) b k h = record { console = refl; controller = h .controller }
 kept-fails (Asked.controller act) b k h = record { console = h .console; controller = refl }
 kept-fails bench.no-end b k h = h
 
-pub happens-kept : (k : Link ℕ Row) (h : Happening Row) → Kept k → Kept (happens numbering isMessage k h .after)
+pub happens-kept : (k : Link Numbers Row) (h : Happening Row) → Kept k → Kept (happens numbering isMessage k h .after)
 unfolding happens
 happens-kept k (radio.acts a) h = aired-kept k (radio.asked k a) h
 happens-kept k (radio.kept-and-cut a) h = kept-fails (radio.asked k a) (aired numbering isMessage (k .bench) (radio.asked k a) .after) k h
@@ -203,12 +204,12 @@ happens-kept k (radio.cut a) h = fails-kept (radio.asked k a) k h
 
 -- ## Every event: it shows nothing and changes nothing, or it is what may happen to the rules' ends
 
-abbrev pub Moved : Link ℕ Row → Event → Type 0
+abbrev pub Moved : Link Numbers Row → Event → Type 0
 Moved k e =
     ((shows (boxesOf k) e ≡ none) × (after (boxesOf k) e ≡ boxesOf k))
     ⊎ ((h : Happening Row) × ((shown-of numbering isMessage k h ≡ shows (boxesOf k) e) × (after (boxesOf k) e ≡ boxesOf (happens numbering isMessage k h .after))))
 
-module _ (k : Link ℕ Row) (kept : Kept k) (byte : ℕ) (m y : List ℕ) where
+module _ (k : Link Numbers Row) (kept : Kept k) (byte : ℕ) (m y : List ℕ) where
   -- what comes of a console's call, with any reach
   abbrev Console-moved : Reach → ConsoleAlone → Type 0
   Console-moved w d =
@@ -222,7 +223,7 @@ module _ (k : Link ℕ Row) (kept : Kept k) (byte : ℕ) (m y : List ℕ) where
   console-unmoved : (w : Reach) (n : ℕ) → Console-moved w (consoleRefused n (consoleBack (k .bench .console)) y)
   unfolding happens fails keeps aired asks rules.ends
   console-unmoved through n =
-      inl (refl, λ i. record { console = consoleBack (k .bench .console); console-kept = (console-used (k .bench .console) ∙ ap (λ (z : ℕ). record { 0 = z }) (sym (kept .console))) i; controller = controllerBack (k .bench .controller); controller-kept = record { 0 = k .controller-kept }; toController = map toControllerBytes (k .bench .toController); toConsole = map toConsoleBytes (k .bench .toConsole) })
+      inl (refl, λ i. record { console = consoleBack (k .bench .console); console-kept = (console-used (k .bench .console) ∙ ap (λ (z : Numbers). record { 0 = z }) (sym (kept .console))) i; controller = controllerBack (k .bench .controller); controller-kept = record { 0 = k .controller-kept }; toController = map toControllerBytes (k .bench .toController); toConsole = map toConsoleBytes (k .bench .toConsole) })
   console-unmoved kept-and-cut n =
       inr (radio.kept-and-cut (bench.action letters.C-down 0 0 []), (refl, ap (λ (u : J). consoleGoes cut (consoleRefused n (consoleBack (k .bench .console)) y) (record { console = consoleBack (k .bench .console); console-kept = u; controller = controllerBack (k .bench .controller); controller-kept = record { 0 = k .controller-kept }; toController = map toControllerBytes (k .bench .toController); toConsole = map toConsoleBytes (k .bench .toConsole) })) (console-used (k .bench .console))))
   console-unmoved cut n = console-cut (consoleRefused n (consoleBack (k .bench .console)) y)
@@ -252,7 +253,7 @@ module _ (k : Link ℕ Row) (kept : Kept k) (byte : ℕ) (m y : List ℕ) where
       )
   console-acted cut l e x act q = console-cut (consoleTold (rules.console-step numbering isMessage (k .bench .console) act) y)
 
-module _ (k : Link ℕ Row) (kept : Kept k) (byte : ℕ) (y : List ℕ) where
+module _ (k : Link Numbers Row) (kept : Kept k) (byte : ℕ) (y : List ℕ) where
   abbrev Controller-moved : Reach → ControllerAlone → Type 0
   Controller-moved w d =
       ((controllerShows w byte d ≡ none) × (controllerGoes w d (boxesOf k) ≡ boxesOf k))
@@ -265,7 +266,7 @@ module _ (k : Link ℕ Row) (kept : Kept k) (byte : ℕ) (y : List ℕ) where
   controller-unmoved : (w : Reach) (n : ℕ) → Controller-moved w (controllerRefused n (controllerBack (k .bench .controller)) y)
   unfolding happens fails keeps aired asks rules.ends
   controller-unmoved through n =
-      inl (refl, λ i. record { console = consoleBack (k .bench .console); console-kept = record { 0 = k .console-kept }; controller = controllerBack (k .bench .controller); controller-kept = (controller-used (k .bench .controller) ∙ ap (λ (z : ℕ). record { 0 = z }) (sym (kept .controller))) i; toController = map toControllerBytes (k .bench .toController); toConsole = map toConsoleBytes (k .bench .toConsole) })
+      inl (refl, λ i. record { console = consoleBack (k .bench .console); console-kept = record { 0 = k .console-kept }; controller = controllerBack (k .bench .controller); controller-kept = (controller-used (k .bench .controller) ∙ ap (λ (z : Numbers). record { 0 = z }) (sym (kept .controller))) i; toController = map toControllerBytes (k .bench .toController); toConsole = map toConsoleBytes (k .bench .toConsole) })
   controller-unmoved kept-and-cut n =
       inr (radio.kept-and-cut (bench.action letters.X-down 0 0 []), (refl, ap (λ (u : I). controllerGoes cut (controllerRefused n (controllerBack (k .bench .controller)) y) (record { console = consoleBack (k .bench .console); console-kept = record { 0 = k .console-kept }; controller = controllerBack (k .bench .controller); controller-kept = u; toController = map toControllerBytes (k .bench .toController); toConsole = map toConsoleBytes (k .bench .toConsole) })) (controller-used (k .bench .controller))))
   controller-unmoved cut n = controller-cut (controllerRefused n (controllerBack (k .bench .controller)) y)
@@ -295,14 +296,14 @@ module _ (k : Link ℕ Row) (kept : Kept k) (byte : ℕ) (y : List ℕ) where
       )
   controller-acted cut l e x act q = controller-cut (controllerTold (rules.controller-step numbering (k .bench .controller) act) y)
 
-pub moved : (k : Link ℕ Row) → Ok k → Kept k → (e : Event) → Honest (boxesOf k) e → Moved k e
+pub moved : (k : Link Numbers Row) → Ok k → Kept k → (e : Event) → Honest (boxesOf k) e → Moved k e
 moved k ok kept (at-console w byte m p y) h =
     by _ (console-call (k .bench) (consoleBack (k .bench .console)) (console-fine k ok .0) m p y byte (λ s. console-finds k ok p (h s)))
   where
     by : (d : ConsoleAlone) → ConsoleCall (k .bench) (consoleBack (k .bench .console)) (console-fine k ok .0) m p y byte d → Console-moved k kept byte m y w d
     by d (inl (n, r)) = subst (Console-moved k kept byte m y w) (sym r) (console-unmoved k kept byte m y w n)
     by d (inr (l, (e, (x, (act, (q, r)))))) =
-        subst (Console-moved k kept byte m y w) (sym (r ∙ ap (λ (c : rules.Console ℕ Row). consoleTold (rules.console-step numbering isMessage c act) y) (console-fine k ok .1)))
+        subst (Console-moved k kept byte m y w) (sym (r ∙ ap (λ (c : rules.Console Numbers Row). consoleTold (rules.console-step numbering isMessage c act) y) (console-fine k ok .1)))
         (console-acted k kept byte m y w l e x act q)
 moved k ok kept (at-controller w byte p y) h =
     by _ (controller-call (k .bench) (controllerBack (k .bench .controller)) (controller-fine k ok .0) [] p y byte (λ s. controller-finds k ok p (h s)))
@@ -310,20 +311,20 @@ moved k ok kept (at-controller w byte p y) h =
     by : (d : ControllerAlone) → ControllerCall (k .bench) (controllerBack (k .bench .controller)) (controller-fine k ok .0) [] p y byte d → Controller-moved k kept byte y w d
     by d (inl (n, r)) = subst (Controller-moved k kept byte y w) (sym r) (controller-unmoved k kept byte y w n)
     by d (inr (l, (e, (x, (act, (q, r)))))) =
-        subst (Controller-moved k kept byte y w) (sym (r ∙ ap (λ (c : rules.Controller ℕ). controllerTold (rules.controller-step numbering c act) y) (controller-fine k ok .1)))
+        subst (Controller-moved k kept byte y w) (sym (r ∙ ap (λ (c : rules.Controller Numbers). controllerTold (rules.controller-step numbering c act) y) (controller-fine k ok .1)))
         (controller-acted k kept byte y w l e x act q)
 
 -- ## All of them
 
-abbrev Onto : log.Log Row → Link ℕ Row → List Event → Type 0
+abbrev Onto : log.Log Row → Link Numbers Row → List Event → Type 0
 Onto past k es = (hs : List (Happening Row)) × (written (rows-shown numbering isMessage k hs) past ≡ written (allShown (boxesOf k) es) past)
 
-onto : (past : log.Log Row) (k : Link ℕ Row) → Ok k → Kept k → (es : List Event) → AllHonest (boxesOf k) es → Onto past k es
+onto : (past : log.Log Row) (k : Link Numbers Row) → Ok k → Kept k → (es : List Event) → AllHonest (boxesOf k) es → Onto past k es
 unfolding rows-shown allShown written
 onto past k ok kept [] h = ([], refl)
 onto past k ok kept (e ∷ es) h = by (moved k ok kept e (h .0)) (λ p q x z v. onto p q x z es v)
   where
-    by : Moved k e → ((p : log.Log Row) (q : Link ℕ Row) → Ok q → Kept q → AllHonest (boxesOf q) es → Onto p q es) → Onto past k (e ∷ es)
+    by : Moved k e → ((p : log.Log Row) (q : Link Numbers Row) → Ok q → Kept q → AllHonest (boxesOf q) es → Onto p q es) → Onto past k (e ∷ es)
     by (inl (n, s)) more =
         let m = more past k ok kept (subst (λ (b : Boxes). AllHonest b es) s (h .1)) in
         let s′ = sym s in
@@ -338,14 +339,14 @@ onto past k ok kept (e ∷ es) h = by (moved k ok kept e (h .0)) (λ p q x z v. 
 -- ## The theorem
 
 module _ (j : J) (i : I) (p : j .0 < 2 ^ 32) (q : i .0 < 2 ^ 32) (es : List Event) (honest : AllHonest (start j i) es) where
-  abbrev from : Link ℕ Row
+  abbrev from : Link Numbers Row
   from = radio.start (j .0) (i .0)
 
   started : Onto [] from es
   unfolding bench.fresh
   started =
       onto [] from
-      (start-ok numbering isMessage (j .0) (i .0) (le-leb (j .0) largest (omega (arith, p))) (le-leb (i .0) largest (omega (arith, q))))
+      (start-ok numbering isMessage (j .0) (i .0) (sound-is (j .0) p) (sound-is (i .0) q))
       (record { console = refl; controller = refl }) es honest
 
   pub boxes-right : BoxesRight j i es

@@ -1,7 +1,7 @@
 -- Demand 3 of two boxes written in C, from that of the ends run alone: call by call, states, records and bytes told are those of the ends.
 use Prim.Native.Nat.{ℕ, _+_, _*_, _/_, _%_, _<_, _^_}
 use mathlib.Core.Path.{_≡_, refl, sym, ap, ap₂, subst, _∙_}
-use mathlib.Core.Logic.{_⊎_, inl, inr}
+use mathlib.Core.Logic.{inl, inr}
 use mathlib.Core.Bool.{Bool, true, false, true≢false}
 use mathlib.Core.Option.{Option}
 use mathlib.Core.List.{List, [], _∷_, map}
@@ -9,13 +9,12 @@ use native.Mathlib.Nat.{add-zero, div-eq-of-lt, mod-eq-of-lt}
 use native.Mathlib.Omega.{arith}
 use lib.ListN.{length}
 use lib.Dec.{eqb}
-use borrow.Author.Tests.{eqb-true, eq-eqb, ne-eqb, le-leb, not-false}
+use borrow.Author.Tests.{eqb-true, eq-eqb, ne-eqb, not-false}
 use Rattle.ground.specs.Cell.{isMessage}
 use Rattle.ground.specs.Choice.{if_then_else_}
 use Rattle.ground.specs.First.{first}
-use Rattle.ground.proofs.Tests.{by-test}
 use Rattle.wire.specs.Number.{bytesOf}
-use Rattle.wire.specs.Record.{endOf, numberOf, recordBytes, recordRead, recordWriteRefusal, recordWritten}
+use Rattle.wire.specs.Record.{endOf, recordBytes, recordWriteRefusal, recordWritten}
 use Rattle.wire.specs.declared.I.{I}
 use Rattle.wire.specs.declared.J.{J}
 use Rattle.wire.specs.declared.LastUsed.{LastUsed}
@@ -23,44 +22,43 @@ use Rattle.wire.specs.declared.LastUsed.the-variants as last-used
 use Rattle.wire.specs.declared.ReadRecord.{ReadRecord}
 use Rattle.wire.specs.declared.ReadRecord.the-variants as read-record
 use Rattle.wire.proofs.RecordTrips.{record-read-back}
-use Rattle.protocol.specs.Supply.{numbering, largest}
-use Rattle.protocol.specs.Bench as bench
-use Rattle.protocol.specs.Ends as rules
-use Rattle.protocol.specs.Log as log
-use Rattle.protocol.specs.Plain.{Plain}
-use Rattle.protocol.specs.Demand3.{written}
-use Rattle.protocol.specs.Radio as radio
-use Rattle.protocol.specs.Radio.{Link, happens, radio-log}
-use Rattle.protocol.specs.WellFormed.{Console-ok, Controller-ok}
-use Rattle.protocol.proofs.Supply.{numbering-lawful}
-use Rattle.protocol.proofs.Plain.{right-plain}
-use Rattle.protocol.proofs.RadioWellFormed.{happens-ok, start-ok}
-use Rattle.ends.specs.Fields.{consoleOk, downedConsole, controllerOk, downedController}
-use Rattle.ends.specs.InRules.{consoleBack, controllerBack}
+use Rattle.rules.specs.Supply.{numbering, Numbers}
+use Rattle.rules.specs.Bench as bench
+use Rattle.rules.specs.Log as log
+use Rattle.rules.specs.Plain.{Plain}
+use Rattle.rules.specs.Demand3.{written}
+use Rattle.rules.specs.Radio as radio
+use Rattle.rules.specs.Radio.{Link, happens, radio-log}
+use Rattle.rules.proofs.Supply.{numbering-lawful}
+use Rattle.rules.proofs.Plain.{right-plain}
+use Rattle.rules.proofs.RadioWellFormed.{happens-ok, start-ok}
+use Rattle.numbers.proofs.Range.{sound-is, sound-below}
+use Rattle.ends_console.specs.Fields.{consoleOk, lastUsedJ, downedConsole}
+use Rattle.ends_controller.specs.Fields.{controllerOk, lastUsedI, downedController}
 use Rattle.ends.specs.declared.Report.{Report}
 use Rattle.ends.specs.declared.Report.the-variants as report
-use Rattle.ends.specs.declared.fields.Console.{Console}
-use Rattle.ends.specs.declared.fields.Controller.{Controller}
+use Rattle.ends_console.specs.declared.fields.Console.{Console}
+use Rattle.ends_controller.specs.declared.fields.Controller.{Controller}
 use Rattle.alone.specs.ConsoleAlone.{ConsoleAlone, consoleRefused, consoleAlone}
 use Rattle.alone.specs.ControllerAlone.{ControllerAlone, controllerRefused, controllerAlone}
 use Rattle.alone.proofs.Refusals.{console-refusal-leaves, controller-refusal-leaves}
-use Rattle.bench.proofs.Standing.{console-stands, controller-stands}
-use Rattle.boxes.specs.State as state
-use Rattle.boxes.specs.State.{isRefusal, changed, marks, told, stateRecordPut, startRefusal, started, lastIn, lastOf}
-use Rattle.boxes.specs.Console as console
-use Rattle.boxes.specs.Console.{ConsoleStep, consoleAt, consoleBytes, consoleStep}
-use Rattle.boxes.specs.Controller as controller
-use Rattle.boxes.specs.Controller.{ControllerStep, controllerAt, controllerBytes, controllerStep, deliveredTo}
-use Rattle.boxes.proofs.ConsoleLeft.{console-refusal-number}
-use Rattle.boxes.proofs.ControllerLeft.{controller-refusal-number}
-use Rattle.boxes.proofs.ConsoleTrips as console-trips
-use Rattle.boxes.proofs.ControllerTrips as controller-trips
-use Rattle.boxes.proofs.Told.{Refusal, keeps-told, sends-told}
+use Rattle.boundary.specs.State as state
+use Rattle.boundary.specs.State.{isRefusal, changed, marks, told, stateRecordPut, startRefusal, started, lastIn, lastOf}
+use Rattle.boundary.specs.Console as console
+use Rattle.boundary.specs.Console.{ConsoleStep, consoleBytes, consoleStep}
+use Rattle.boundary.specs.Controller as controller
+use Rattle.boundary.specs.Controller.{ControllerStep, controllerBytes, controllerStep, deliveredTo}
+use Rattle.boundary.proofs.ConsoleWellFormed as console-left
+use Rattle.boundary.proofs.ConsoleWellFormed.{console-refusal-number}
+use Rattle.boundary.proofs.ControllerWellFormed as controller-left
+use Rattle.boundary.proofs.ControllerWellFormed.{controller-refusal-number}
+use Rattle.boundary.proofs.ConsoleTrips as console-trips
+use Rattle.boundary.proofs.ControllerTrips as controller-trips
+use Rattle.boundary.proofs.ToldByte.{Refusal, keeps-told, sends-told}
 use Rattle.demand3.specs.BenchForC.{byteSays}
 use Rattle.demand3.specs.Boxes as alone
 use Rattle.demand3.specs.Boxes.{Reach, through, kept-and-cut, cut, leaves, called}
 use Rattle.demand3.specs.BoxesForC.{Boxes, Event, at-console, at-controller, keepTold, sentTold, reportTold, consoleKeeps, controllerKeeps, consoleStarts, controllerStarts, consoleGoes, controllerGoes, after, start, consoleShows, controllerShows, shows, allShown, Honest, AllHonest, BoxesForCRight}
-use Rattle.demand3.proofs.BenchForC.{small, console-typed, controller-typed}
 use Rattle.demand3.proofs.Boxes.{Row, Ok, boxesOf, Kept, happens-kept, Moved, moved, console-used, controller-used, boxes-right}
 
 -- ## What the byte says
@@ -171,7 +169,7 @@ module _ (c : Console) (typed : console-trips.Typed c) where
   abbrev console-tells : ConsoleAlone → ConsoleStep
   console-tells d =
       record {
-        told = told (d .outcome .report) (d .outcome .sent) (changed (c .used .0) (d .outcome .console .used .0));
+        told = told (d .outcome .report) (d .outcome .sent) (changed (c .numbers .used) (d .outcome .console .numbers .used));
         state = if isRefusal (d .outcome .report) then consoleBytes c else state.written 30 (consoleBytes c) (consoleBytes (d .outcome .console));
         reply = d .reply;
       }
@@ -181,7 +179,7 @@ module _ (c : Console) (typed : console-trips.Typed c) where
       ap
       (λ (z : Console).
       record {
-        told = told (consoleAlone z l m p y .outcome .report) (consoleAlone z l m p y .outcome .sent) (changed (z .used .0) (consoleAlone z l m p y .outcome .console .used .0));
+        told = told (consoleAlone z l m p y .outcome .report) (consoleAlone z l m p y .outcome .sent) (changed (z .numbers .used) (consoleAlone z l m p y .outcome .console .numbers .used));
         state =
             if isRefusal (consoleAlone z l m p y .outcome .report) then consoleBytes c
             else state.written 30 (consoleBytes c) (consoleBytes (consoleAlone z l m p y .outcome .console));
@@ -194,7 +192,7 @@ module _ (c : Console) (typed : console-trips.Typed c) where
     pub sends : sentTold (console-tells d .told) ≡ d .outcome .sent
     pub says : reportTold (console-tells d .told) ≡ d .outcome .report
     pub leaves : console-tells d .state ≡ consoleBytes (d .outcome .console)
-    pub keeps : consoleKeeps (console-tells d) (recordBytes (last-used.Console (c .used))) ≡ recordBytes (last-used.Console (d .outcome .console .used))
+    pub keeps : consoleKeeps (console-tells d) (recordBytes (console.consoleLast c)) ≡ recordBytes (console.consoleLast (d .outcome .console))
 
   console-refused-told : (n : ℕ) (y : List ℕ) → Refusal n → Console-told (consoleRefused n c y)
   unfolding consoleKeeps if_then_else_
@@ -203,7 +201,7 @@ module _ (c : Console) (typed : console-trips.Typed c) where
   console-carried-told : (d : ConsoleAlone) → isRefusal (d .outcome .report) ≡ false → consoleOk (d .outcome .console) ≡ true → console-trips.Typed (d .outcome .console) → Console-told d
   unfolding consoleKeeps state.written if_then_else_
   console-carried-told d e ok left =
-      let keep = changed (c .used .0) (d .outcome .console .used .0) in
+      let keep = changed (c .numbers .used) (d .outcome .console .numbers .used) in
       let back = console-trips.console-read-back (d .outcome .console) left in
       record {
         sends = sends-told (d .outcome .report) (d .outcome .sent) keep e;
@@ -211,7 +209,7 @@ module _ (c : Console) (typed : console-trips.Typed c) where
         leaves = rw (e, eq-eqb (length (consoleBytes c)) 30 console-long);
         keeps =
             rw (e, eq-eqb (length (consoleBytes c)) 30 console-long, back, ok)
-            (kept-record (λ n. last-used.Console (record { 0 = n })) (c .used .0) (d .outcome .console .used .0) _ (keeps-told (d .outcome .report) (d .outcome .sent) keep e));
+            (kept-record (λ n. last-used.Console (record { 0 = n })) (c .numbers .used) (d .outcome .console .numbers .used) _ (keeps-told (d .outcome .report) (d .outcome .sent) keep e));
       }
 
 -- ## A call of the controller
@@ -224,7 +222,7 @@ module _ (c : Controller) (typed : controller-trips.Typed c) where
   abbrev controller-tells : List ℕ → ControllerAlone → ControllerStep
   controller-tells lent d =
       record {
-        told = told (d .outcome .report) (d .outcome .sent) (changed (c .used .0) (d .outcome .controller .used .0));
+        told = told (d .outcome .report) (d .outcome .sent) (changed (c .numbers .used) (d .outcome .controller .numbers .used));
         state = if isRefusal (d .outcome .report) then controllerBytes c else state.written 17 (controllerBytes c) (controllerBytes (d .outcome .controller));
         reply = d .reply;
         delivered = deliveredTo (d .outcome .report) (d .outcome .message) lent;
@@ -235,7 +233,7 @@ module _ (c : Controller) (typed : controller-trips.Typed c) where
       ap
       (λ (z : Controller).
       record {
-        told = told (controllerAlone z l p y .outcome .report) (controllerAlone z l p y .outcome .sent) (changed (z .used .0) (controllerAlone z l p y .outcome .controller .used .0));
+        told = told (controllerAlone z l p y .outcome .report) (controllerAlone z l p y .outcome .sent) (changed (z .numbers .used) (controllerAlone z l p y .outcome .controller .numbers .used));
         state =
             if isRefusal (controllerAlone z l p y .outcome .report) then controllerBytes c
             else state.written 17 (controllerBytes c) (controllerBytes (controllerAlone z l p y .outcome .controller));
@@ -248,7 +246,7 @@ module _ (c : Controller) (typed : controller-trips.Typed c) where
     pub sends : sentTold (controller-tells lent d .told) ≡ d .outcome .sent
     pub says : reportTold (controller-tells lent d .told) ≡ d .outcome .report
     pub leaves : controller-tells lent d .state ≡ controllerBytes (d .outcome .controller)
-    pub keeps : controllerKeeps (controller-tells lent d) (recordBytes (last-used.Controller (c .used))) ≡ recordBytes (last-used.Controller (d .outcome .controller .used))
+    pub keeps : controllerKeeps (controller-tells lent d) (recordBytes (controller.controllerLast c)) ≡ recordBytes (controller.controllerLast (d .outcome .controller))
 
   controller-refused-told : (lent : List ℕ) (n : ℕ) (y : List ℕ) → Refusal n → Controller-told lent (controllerRefused n c y)
   unfolding controllerKeeps if_then_else_
@@ -257,7 +255,7 @@ module _ (c : Controller) (typed : controller-trips.Typed c) where
   controller-carried-told : (lent : List ℕ) (d : ControllerAlone) → isRefusal (d .outcome .report) ≡ false → controllerOk (d .outcome .controller) ≡ true → controller-trips.Typed (d .outcome .controller) → Controller-told lent d
   unfolding controllerKeeps state.written if_then_else_
   controller-carried-told lent d e ok left =
-      let keep = changed (c .used .0) (d .outcome .controller .used .0) in
+      let keep = changed (c .numbers .used) (d .outcome .controller .numbers .used) in
       let back = controller-trips.controller-read-back (d .outcome .controller) left in
       record {
         sends = sends-told (d .outcome .report) (d .outcome .sent) keep e;
@@ -265,27 +263,27 @@ module _ (c : Controller) (typed : controller-trips.Typed c) where
         leaves = rw (e, eq-eqb (length (controllerBytes c)) 17 controller-long);
         keeps =
             rw (e, eq-eqb (length (controllerBytes c)) 17 controller-long, back, ok)
-            (kept-record (λ n. last-used.Controller (record { 0 = n })) (c .used .0) (d .outcome .controller .used .0) _ (keeps-told (d .outcome .report) (d .outcome .sent) keep e));
+            (kept-record (λ n. last-used.Controller (record { 0 = n })) (c .numbers .used) (d .outcome .controller .numbers .used) _ (keeps-told (d .outcome .report) (d .outcome .sent) keep e));
       }
 
 -- ## Where the rules' link stands
 
-module _ (k : Link ℕ Row) (ok : Ok k) where
+module _ (k : Link Numbers Row) (ok : Ok k) where
   console-at : console-trips.Typed (boxesOf k .console)
-  console-at = let e = k .bench .console in console-typed (e .numbers) (e .mode) (e .up) (ok .console .numbers) (ok .console .mode)
+  console-at = console-left.fields-left (k .bench .console) (ok .console) .1
 
   controller-at : controller-trips.Typed (boxesOf k .controller)
-  controller-at = let e = k .bench .controller in controller-typed (e .numbers) (e .mode) (e .up) (ok .controller .numbers) (ok .controller .mode)
+  controller-at = controller-left.fields-left (k .bench .controller) (ok .controller) .1
 
   console-well : consoleOk (boxesOf k .console) ≡ true
-  console-well = let e = k .bench .console in console-stands (e .numbers) (e .mode) (e .up) (ok .console .mode) .0
+  console-well = console-left.fields-left (k .bench .console) (ok .console) .0
 
   controller-well : controllerOk (boxesOf k .controller) ≡ true
-  controller-well = let e = k .bench .controller in controller-stands (e .numbers) (e .mode) (e .up) (ok .controller .mode) .0
+  controller-well = controller-left.fields-left (k .bench .controller) (ok .controller) .0
 
   -- the link that an event leads to
   pub record Next (e : alone.Event) : Type 0 where
-    pub link : Link ℕ Row
+    pub link : Link Numbers Row
     pub fine : Ok link
     pub kept : Kept link
     pub is : alone.after (boxesOf k) e ≡ boxesOf link
@@ -300,19 +298,19 @@ module _ (k : Link ℕ Row) (ok : Ok k) where
 
 -- ## Every event
 
-abbrev Same : Link ℕ Row → Event → Type 0
+abbrev Same : Link Numbers Row → Event → Type 0
 Same k e = (after (inC (boxesOf k)) e ≡ inC (alone.after (boxesOf k) (plain e))) × (shows (inC (boxesOf k)) e ≡ alone.shows (boxesOf k) (plain e))
 
-module _ (k : Link ℕ Row) (ok : Ok k) (kept : Kept k) where
+module _ (k : Link Numbers Row) (ok : Ok k) (kept : Kept k) where
   abbrev b : alone.Boxes
   b = boxesOf k
 
   -- the record that the box has kept is the console's
-  console-kept-is : recordBytes (last-used.Console (b .console-kept)) ≡ recordBytes (last-used.Console (b .console .used))
-  console-kept-is = ap (λ (j : J). recordBytes (last-used.Console j)) (ap (λ (n : ℕ). record { 0 = n }) (kept .console) ∙ sym (console-used (k .bench .console)))
+  console-kept-is : recordBytes (last-used.Console (b .console-kept)) ≡ recordBytes (console.consoleLast (b .console))
+  console-kept-is = ap (λ (j : J). recordBytes (last-used.Console j)) (ap (λ (n : Numbers). record { 0 = n }) (kept .console) ∙ sym (console-used (k .bench .console)))
 
-  controller-kept-is : recordBytes (last-used.Controller (b .controller-kept)) ≡ recordBytes (last-used.Controller (b .controller .used))
-  controller-kept-is = ap (λ (i : I). recordBytes (last-used.Controller i)) (ap (λ (n : ℕ). record { 0 = n }) (kept .controller) ∙ sym (controller-used (k .bench .controller)))
+  controller-kept-is : recordBytes (last-used.Controller (b .controller-kept)) ≡ recordBytes (controller.controllerLast (b .controller))
+  controller-kept-is = ap (λ (i : I). recordBytes (last-used.Controller i)) (ap (λ (n : Numbers). record { 0 = n }) (kept .controller) ∙ sym (controller-used (k .bench .controller)))
 
   -- what is told and left, of any call
   console-is-told : (l : ℕ) (m p y : List ℕ) → alone.Honest b (alone.at-console through l m p y) → Console-told (b .console) (console-at k ok) (consoleAlone (b .console) l m p y)
@@ -377,13 +375,13 @@ module _ (k : Link ℕ Row) (ok : Ok k) (kept : Kept k) where
     abbrev f : Console-told (b .console) (console-at k ok) d
     f = console-is-told l m p y h
 
-    console-keeps : consoleKeeps t (recordBytes (last-used.Console (b .console-kept))) ≡ recordBytes (last-used.Console (d .outcome .console .used))
+    console-keeps : consoleKeeps t (recordBytes (last-used.Console (b .console-kept))) ≡ recordBytes (console.consoleLast (d .outcome .console))
     console-keeps = ap (consoleKeeps t) console-kept-is ∙ f .keeps
 
-    console-below : d .outcome .console .used .0 < 2 ^ 32
+    console-below : d .outcome .console .numbers .used < 2 ^ 32
     console-below =
         let n = next k ok kept (alone.at-console through l m p y) h in
-        subst (λ (x : alone.Boxes). x .console .used .0 < 2 ^ 32) (sym (n .is)) (console-at (n .link) (n .fine) .used)
+        subst (λ (x : alone.Boxes). x .console .numbers .used < 2 ^ 32) (sym (n .is)) (console-at (n .link) (n .fine) .used)
 
     console-goes : (w : Reach) → consoleGoes w t (inC b) ≡ inC (alone.consoleGoes w d b)
     console-goes through =
@@ -397,7 +395,7 @@ module _ (k : Link ℕ Row) (ok : Ok k) (kept : Kept k) where
           toConsole = b .toConsole;
         }
     console-goes kept-and-cut =
-        let begins = ap (consoleStarts (consoleBytes (b .console))) console-keeps ∙ console-starts (consoleBytes (b .console)) (d .outcome .console .used) console-below (console-long (b .console) (console-at k ok)) in
+        let begins = ap (consoleStarts (consoleBytes (b .console))) console-keeps ∙ console-starts (consoleBytes (b .console)) (lastUsedJ (d .outcome .console)) console-below (console-long (b .console) (console-at k ok)) in
         λ i.
         record {
           console = begins i;
@@ -408,7 +406,7 @@ module _ (k : Link ℕ Row) (ok : Ok k) (kept : Kept k) where
           toConsole = b .toConsole;
         }
     console-goes cut =
-        let begins = console-starts (consoleBytes (b .console)) (b .console-kept) (small (k .console-kept) (ok .console-kept)) (console-long (b .console) (console-at k ok)) in
+        let begins = console-starts (consoleBytes (b .console)) (b .console-kept) (sound-below (k .console-kept) (ok .console-kept)) (console-long (b .console) (console-at k ok)) in
         λ i.
         record {
           console = begins i;
@@ -439,13 +437,13 @@ module _ (k : Link ℕ Row) (ok : Ok k) (kept : Kept k) where
     abbrev g : Controller-told (b .controller) (controller-at k ok) lent e
     g = controller-is-told l p y lent h
 
-    controller-keeps : controllerKeeps u (recordBytes (last-used.Controller (b .controller-kept))) ≡ recordBytes (last-used.Controller (e .outcome .controller .used))
+    controller-keeps : controllerKeeps u (recordBytes (last-used.Controller (b .controller-kept))) ≡ recordBytes (controller.controllerLast (e .outcome .controller))
     controller-keeps = ap (controllerKeeps u) controller-kept-is ∙ g .keeps
 
-    controller-below : e .outcome .controller .used .0 < 2 ^ 32
+    controller-below : e .outcome .controller .numbers .used < 2 ^ 32
     controller-below =
         let n = next k ok kept (alone.at-controller through l p y) h in
-        subst (λ (x : alone.Boxes). x .controller .used .0 < 2 ^ 32) (sym (n .is)) (controller-at (n .link) (n .fine) .used)
+        subst (λ (x : alone.Boxes). x .controller .numbers .used < 2 ^ 32) (sym (n .is)) (controller-at (n .link) (n .fine) .used)
 
     controller-goes : (w : Reach) → controllerGoes w u (inC b) ≡ inC (alone.controllerGoes w e b)
     controller-goes through =
@@ -459,7 +457,7 @@ module _ (k : Link ℕ Row) (ok : Ok k) (kept : Kept k) where
           toConsole = leaves (g .sends i) (e .reply) (b .toConsole);
         }
     controller-goes kept-and-cut =
-        let begins = ap (controllerStarts (controllerBytes (b .controller))) controller-keeps ∙ controller-starts (controllerBytes (b .controller)) (e .outcome .controller .used) controller-below (controller-long (b .controller) (controller-at k ok)) in
+        let begins = ap (controllerStarts (controllerBytes (b .controller))) controller-keeps ∙ controller-starts (controllerBytes (b .controller)) (lastUsedI (e .outcome .controller)) controller-below (controller-long (b .controller) (controller-at k ok)) in
         λ i.
         record {
           console = consoleBytes (b .console);
@@ -470,7 +468,7 @@ module _ (k : Link ℕ Row) (ok : Ok k) (kept : Kept k) where
           toConsole = b .toConsole;
         }
     controller-goes cut =
-        let begins = controller-starts (controllerBytes (b .controller)) (b .controller-kept) (small (k .controller-kept) (ok .controller-kept)) (controller-long (b .controller) (controller-at k ok)) in
+        let begins = controller-starts (controllerBytes (b .controller)) (b .controller-kept) (sound-below (k .controller-kept) (ok .controller-kept)) (controller-long (b .controller) (controller-at k ok)) in
         λ i.
         record {
           console = consoleBytes (b .console);
@@ -497,10 +495,10 @@ module _ (k : Link ℕ Row) (ok : Ok k) (kept : Kept k) where
 
 -- ## All of them
 
-abbrev All-same : Link ℕ Row → List Event → Type 0
+abbrev All-same : Link Numbers Row → List Event → Type 0
 All-same k es = alone.AllHonest (boxesOf k) (map plain es) × (allShown (inC (boxesOf k)) es ≡ alone.allShown (boxesOf k) (map plain es))
 
-all-same : (k : Link ℕ Row) → Ok k → Kept k → (es : List Event) → AllHonest (inC (boxesOf k)) es → All-same k es
+all-same : (k : Link Numbers Row) → Ok k → Kept k → (es : List Event) → AllHonest (inC (boxesOf k)) es → All-same k es
 unfolding allShown alone.allShown
 all-same k ok kept [] h = (tt, refl)
 all-same k ok kept (x ∷ es) h =
@@ -521,7 +519,7 @@ module _ (j : J) (i : I) (p : j .0 < 2 ^ 32) (q : i .0 < 2 ^ 32) (es : List Even
   unfolding bench.fresh
   begun =
       all-same (radio.start (j .0) (i .0))
-      (start-ok numbering isMessage (j .0) (i .0) (le-leb (j .0) largest (omega (arith, p))) (le-leb (i .0) largest (omega (arith, q))))
+      (start-ok numbering isMessage (j .0) (i .0) (sound-is (j .0) p) (sound-is (i .0) q))
       (record { console = refl; controller = refl }) es honest
 
   pub boxes-for-c-right : BoxesForCRight j i es

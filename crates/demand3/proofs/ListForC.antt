@@ -5,15 +5,15 @@ use contract.Lifetimes.{Lfts}
 use borrow.Fn.Kinds.{Dens, endedOf}
 use denote.Ref.{now}
 use denote.Triple.Clauses.{AtExit}
-use Rattle.protocol.specs.Bench.{fresh}
-use Rattle.protocol.specs.Demand3.{written}
-use Rattle.protocol.specs.Plain.{Plain}
-use Rattle.protocol.proofs.Plain.{right-plain}
+use Rattle.rules.specs.Bench.{fresh}
+use Rattle.rules.specs.Demand3.{written}
+use Rattle.rules.specs.Plain.{Plain}
+use Rattle.rules.proofs.Plain.{right-plain}
 use Rattle.bench.specs.Listed.{actionsIn, ListRight}
 use Rattle.bench.specs.Orders.{rowsOf}
 use Rattle.bench.proofs.Listed.{ran-right}
-use Rattle.boxes.proofs.lists.nooseless_run.Kinds as run-kinds
-use Rattle.boxes.proofs.lists.nooseless_run.Reads as run
+use Rattle.boundary.proofs.lists.nooseless_run.Kinds as run-kinds
+use Rattle.boundary.proofs.lists.nooseless_run.Reads as run
 
 module _ (κs : Lfts 2) (a : Dens κs run-kinds.ps) (x : ℕ) (s : AtExit (endedOf 2 run-kinds.ps run-kinds.r) κs) (meets : run.Post κs a x s) where
   pub list-right : ListRight (now (a .0)) (now (a .1 .0)) (now (s .1 .0)) x

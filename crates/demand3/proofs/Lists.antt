@@ -1,12 +1,11 @@
 -- Lists: what is in a list that was mapped, and rows written after a change of each.
-use Prim.Native.Nat.{ℕ}
 use mathlib.Core.Path.{_≡_, refl, sym, ap, subst, _∙_}
-use mathlib.Core.Logic.{_⊎_, inl, inr}
+use mathlib.Core.Logic.{inl, inr}
 use mathlib.Core.Option.{Option, none, some, Option·map}
-use mathlib.Core.List.{List, [], _∷_, _++_, map}
-use Rattle.protocol.specs.Lists.{All, In}
-use Rattle.protocol.specs.Log.{Event, Log}
-use Rattle.protocol.specs.Demand3.{write, written}
+use mathlib.Core.List.{List, [], _∷_, map}
+use Rattle.rules.specs.Lists.{All, In}
+use Rattle.rules.specs.Log.{Event, Log}
+use Rattle.rules.specs.Demand3.{write, written}
 
 module _ {A B : Type 0} (f : A → B) where
   pub in-map : (y : B) (l : List A) → In y (map f l) → (x : A) × (In x l × (y ≡ f x))

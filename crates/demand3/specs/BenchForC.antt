@@ -1,5 +1,5 @@
 -- Demand 3 of the bench for C: of any calls of `nooseless_bench_step` that follow `nooseless_bench_fresh`, by the bytes that they return and leave. Assumes
--- nothing. `freshPut`, `stepPut` and `stepDelivered` are the two entries' own promises, so that these calls are the entries' calls.
+-- nothing. `freshPut` and `stepPut` are the two entries' own promises, so that these calls are the entries' calls.
 use Prim.Native.Nat.{ℕ}
 use mathlib.Core.Path.{_≡_}
 use mathlib.Core.Option.{Option·map}
@@ -8,14 +8,14 @@ use lib.Dec.{eqb}
 use Rattle.ground.specs.Choice.{if_then_else_}
 use Rattle.wire.specs.declared.I.{I}
 use Rattle.wire.specs.declared.J.{J}
-use Rattle.protocol.specs.Bench.{fresh}
-use Rattle.protocol.specs.Log.{Right}
-use Rattle.protocol.specs.Demand3.{written, unnumbered}
+use Rattle.rules.specs.Bench.{fresh}
+use Rattle.rules.specs.Log.{Right}
+use Rattle.rules.specs.Demand3.{written, unnumbered}
 use Rattle.ends.specs.declared.Report.{Report}
 use Rattle.ends.specs.declared.Report.the-variants as report
 use Rattle.bench.specs.Orders.{shownBy, Rows, rowsOf}
 use Rattle.bench.specs.declared.Action.{Action}
-use Rattle.boxes.specs.Benches.{freshPut, stepPut, stepDelivered}
+use Rattle.boundary.specs.Benches.{freshPut, stepPut}
 
 -- what C hands to a call: letter, place, copies and message; and the 16 bytes lent for a delivery as they stand
 pub record Call : Type 0 where
@@ -31,8 +31,8 @@ pub record Seen : Type 0 where
 unfoldable pub calls : List ℕ → List ℕ → List ℕ → List Call → List Seen
 calls s out back [] = []
 calls s out back (c ∷ l) =
-    let p = stepPut s (c .action) out back in
-    record { told = p .told; delivered = stepDelivered s (c .action) out back (c .lent) } ∷ calls (p .state) (p .out) (p .back) l
+    let p = stepPut s (c .action) out back (c .lent) in
+    record { told = p .told; delivered = p .delivered } ∷ calls (p .state) (p .out) (p .back) l
 
 -- from where `nooseless_bench_fresh` leaves them
 unfoldable pub freshCalls : J → I → List ℕ → List ℕ → List ℕ → List Call → List Seen

@@ -9,20 +9,21 @@ use Rattle.ground.specs.Cell.{isMessage}
 use Rattle.wire.specs.Packet.{packetRead}
 use Rattle.wire.specs.declared.I.{I}
 use Rattle.wire.specs.declared.J.{J}
-use Rattle.protocol.specs.Supply.{numbering}
-use Rattle.protocol.specs.Letters.{letter, S-take, R-take}
-use Rattle.protocol.specs.Ends.{absent}
-use Rattle.protocol.specs.Lists.{In}
-use Rattle.protocol.specs.Log as log
-use Rattle.protocol.specs.Log.{Right}
-use Rattle.protocol.specs.Demand3.{written, unnumbered}
-use Rattle.protocol.specs.Radio.{Happening, radio-log}
-use Rattle.ends.specs.Fields.{freshConsole, downedConsole, freshController, downedController}
-use Rattle.ends.specs.Means.{forConsole, forController}
+use Rattle.rules.specs.Supply.{numbering}
+use Rattle.rules.specs.Letters.{letter, S-take, R-take}
+use Rattle.rules.specs.Ends.{absent}
+use Rattle.rules.specs.Lists.{In}
+use Rattle.rules.specs.Log as log
+use Rattle.rules.specs.Log.{Right}
+use Rattle.rules.specs.Demand3.{written, unnumbered}
+use Rattle.rules.specs.Radio.{Happening, radio-log}
+use Rattle.ends_console.specs.Fields.{lastUsedJ, freshConsole, downedConsole}
+use Rattle.ends_controller.specs.Fields.{lastUsedI, freshController, downedController}
+use Rattle.ends.specs.AsRules.{forConsole, forController}
 use Rattle.ends.specs.Packets.{readForConsole, readForController}
 use Rattle.ends.specs.declared.Report.{Report}
-use Rattle.ends.specs.declared.fields.Console.{Console}
-use Rattle.ends.specs.declared.fields.Controller.{Controller}
+use Rattle.ends_console.specs.declared.fields.Console.{Console}
+use Rattle.ends_controller.specs.declared.fields.Controller.{Controller}
 use Rattle.alone.specs.ConsoleAlone.{ConsoleAlone, consoleAlone}
 use Rattle.alone.specs.ControllerAlone.{ControllerAlone, controllerAlone}
 use Rattle.bench.specs.Orders.{shownBy}
@@ -38,7 +39,7 @@ pub record Boxes : Type 0 where
   pub toController : List (List ℕ)
   pub toConsole : List (List ℕ)
 
--- how far a box comes with a step before its power is cut, by the rule that a box has to keep (protocol/specs/Radio.antt): the record is kept, the
+-- how far a box comes with a step before its power is cut, by the rule that a box has to keep (rules/specs/Radio.antt): the record is kept, the
 -- report shown and the reply gone; the record is kept, nothing shown or sent; nothing
 pub data Reach : Type 0 where
   through kept-and-cut cut : Reach
@@ -57,7 +58,7 @@ abbrev pub consoleGoes : Reach → ConsoleAlone → Boxes → Boxes
 consoleGoes through d b =
     record {
       console = d .outcome .console;
-      console-kept = d .outcome .console .used;
+      console-kept = lastUsedJ (d .outcome .console);
       controller = b .controller;
       controller-kept = b .controller-kept;
       toController = leaves (d .outcome .sent) (d .reply) (b .toController);
@@ -65,8 +66,8 @@ consoleGoes through d b =
     }
 consoleGoes kept-and-cut d b =
     record {
-      console = downedConsole (d .outcome .console .used);
-      console-kept = d .outcome .console .used;
+      console = downedConsole (lastUsedJ (d .outcome .console));
+      console-kept = lastUsedJ (d .outcome .console);
       controller = b .controller;
       controller-kept = b .controller-kept;
       toController = b .toController;
@@ -88,7 +89,7 @@ controllerGoes through d b =
       console = b .console;
       console-kept = b .console-kept;
       controller = d .outcome .controller;
-      controller-kept = d .outcome .controller .used;
+      controller-kept = lastUsedI (d .outcome .controller);
       toController = b .toController;
       toConsole = leaves (d .outcome .sent) (d .reply) (b .toConsole);
     }
@@ -96,8 +97,8 @@ controllerGoes kept-and-cut d b =
     record {
       console = b .console;
       console-kept = b .console-kept;
-      controller = downedController (d .outcome .controller .used);
-      controller-kept = d .outcome .controller .used;
+      controller = downedController (lastUsedI (d .outcome .controller));
+      controller-kept = lastUsedI (d .outcome .controller);
       toController = b .toController;
       toConsole = b .toConsole;
     }

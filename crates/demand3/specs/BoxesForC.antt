@@ -13,20 +13,21 @@ use Rattle.wire.specs.Record.{recordBytes}
 use Rattle.wire.specs.declared.I.{I}
 use Rattle.wire.specs.declared.J.{J}
 use Rattle.wire.specs.declared.LastUsed.the-variants as last-used
-use Rattle.protocol.specs.Supply.{numbering}
-use Rattle.protocol.specs.Letters.{letter, S-take, R-take}
-use Rattle.protocol.specs.Lists.{In}
-use Rattle.protocol.specs.Log as log
-use Rattle.protocol.specs.Log.{Right}
-use Rattle.protocol.specs.Demand3.{written, unnumbered}
-use Rattle.protocol.specs.Radio.{Happening, radio-log}
-use Rattle.ends.specs.Fields.{consoleOk, freshConsole, controllerOk, freshController}
+use Rattle.rules.specs.Supply.{numbering}
+use Rattle.rules.specs.Letters.{letter, S-take, R-take}
+use Rattle.rules.specs.Lists.{In}
+use Rattle.rules.specs.Log as log
+use Rattle.rules.specs.Log.{Right}
+use Rattle.rules.specs.Demand3.{written, unnumbered}
+use Rattle.rules.specs.Radio.{Happening, radio-log}
+use Rattle.ends_console.specs.Fields.{consoleOk, freshConsole}
+use Rattle.ends_controller.specs.Fields.{controllerOk, freshController}
 use Rattle.ends.specs.declared.Report.{Report}
-use Rattle.boxes.specs.State.{stateRecordPut, started}
-use Rattle.boxes.specs.Console as console
-use Rattle.boxes.specs.Console.{ConsoleStep, consoleAt, consoleBytes, consoleStep}
-use Rattle.boxes.specs.Controller as controller
-use Rattle.boxes.specs.Controller.{ControllerStep, controllerAt, controllerBytes, controllerStep}
+use Rattle.boundary.specs.State.{stateRecordPut, started}
+use Rattle.boundary.specs.Console as console
+use Rattle.boundary.specs.Console.{ConsoleStep, consoleAt, consoleLast, consoleBytes, consoleStep}
+use Rattle.boundary.specs.Controller as controller
+use Rattle.boundary.specs.Controller.{ControllerStep, controllerAt, controllerLast, controllerBytes, controllerStep}
 use Rattle.demand3.specs.BenchForC.{byteSays}
 use Rattle.demand3.specs.Boxes.{Reach, through, kept-and-cut, cut, leaves, called, isForConsole, isForController}
 
@@ -62,13 +63,13 @@ reportTold t = byteSays (t % 32 + 64 * (t / 64 % 2))
 unfoldable pub consoleKeeps : ConsoleStep → List ℕ → List ℕ
 consoleKeeps t kept =
     if keepTold (t .told)
-    then stateRecordPut (consoleOk (consoleAt (t .state))) (last-used.Console (consoleAt (t .state) .used)) kept
+    then stateRecordPut (consoleOk (consoleAt (t .state))) (consoleLast (consoleAt (t .state))) kept
     else kept
 
 unfoldable pub controllerKeeps : ControllerStep → List ℕ → List ℕ
 controllerKeeps t kept =
     if keepTold (t .told)
-    then stateRecordPut (controllerOk (controllerAt (t .state))) (last-used.Controller (controllerAt (t .state) .used)) kept
+    then stateRecordPut (controllerOk (controllerAt (t .state))) (controllerLast (controllerAt (t .state))) kept
     else kept
 
 -- after power loss: down, from the kept record

@@ -2,12 +2,12 @@
 use crate::text::say;
 use crate::text::say_with;
 use bench::Bench;
-use ends::console;
-use ends::controller;
-use ends::fields::Console;
-use ends::fields::Controller;
-use ends::fields::console_end;
-use ends::fields::controller_end;
+use ends_console::fields::Console;
+use ends_console::fields::ConsoleRead;
+use ends_console::fields::read_console;
+use ends_controller::fields::Controller;
+use ends_controller::fields::ControllerRead;
+use ends_controller::fields::read_controller;
 use tables::Way;
 use wire::Head;
 use wire::ReadHead;
@@ -16,22 +16,22 @@ fn print_up(up: bool) {
     if up { say(b"up, ") } else { say(b"down, ") }
 }
 
-fn print_console_mode(mode: console::Mode) {
+fn print_console_mode(mode: ends_console::Mode) {
     match mode {
-        console::Mode::Idle => say(b"idle"),
-        console::Mode::NeedI(j) => say_with(b"needI j=", j.0),
-        console::Mode::Send(last) => say_with(b"send last=", last.0),
+        ends_console::Mode::Idle => say(b"idle"),
+        ends_console::Mode::NeedI(j) => say_with(b"needI j=", j.0),
+        ends_console::Mode::Send(last) => say_with(b"send last=", last.0),
     }
 }
 
-fn print_controller_mode(mode: controller::Mode) {
+fn print_controller_mode(mode: ends_controller::Mode) {
     match mode {
-        controller::Mode::Idle => say(b"idle"),
-        controller::Mode::Accept(j, i) => {
+        ends_controller::Mode::Idle => say(b"idle"),
+        ends_controller::Mode::Accept(j, i) => {
             say_with(b"accept j=", j.0);
             say_with(b" i=", i.0)
         }
-        controller::Mode::Ack(last) => say_with(b"ack last=", last.0),
+        ends_controller::Mode::Ack(last) => say_with(b"ack last=", last.0),
     }
 }
 
@@ -45,23 +45,37 @@ fn print_held(c: Console) {
     say(b"\n");
 }
 
-fn print_console(c: Console) {
-    let end = console_end(c);
-    let mode = end.mode;
-    say(b"  console ");
-    print_up(end.up);
+fn print_console_end(e: ends_console::End) {
+    let mode = e.mode;
+    print_up(e.up);
     print_console_mode(mode);
-    say_with(b", last used J ", end.used.0);
+    say_with(b", last used J ", e.numbers.used);
+}
+
+fn print_console(c: Console) {
+    say(b"  console ");
+    let read = read_console(c);
+    match read {
+        ConsoleRead::IllFormed => say(b"not well formed"),
+        ConsoleRead::Is(e) => print_console_end(e),
+    }
     print_held(c);
 }
 
-fn print_controller(c: Controller) {
-    let end = controller_end(c);
-    let mode = end.mode;
-    say(b"  controller ");
-    print_up(end.up);
+fn print_controller_end(e: ends_controller::End) {
+    let mode = e.mode;
+    print_up(e.up);
     print_controller_mode(mode);
-    say_with(b", last used I ", end.used.0);
+    say_with(b", last used I ", e.numbers.used);
+}
+
+fn print_controller(c: Controller) {
+    say(b"  controller ");
+    let read = read_controller(c);
+    match read {
+        ControllerRead::IllFormed => say(b"not well formed"),
+        ControllerRead::Is(e) => print_controller_end(e),
+    }
     say(b"\n");
 }
 

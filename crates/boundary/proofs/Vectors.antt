@@ -1,0 +1,84 @@
+-- Computed examples of what a step tells.
+use Prim.Native.Nat.{ℕ}
+use mathlib.Core.Path.{_≡_, refl}
+use mathlib.Core.Bool.{Bool, true, false}
+use mathlib.Core.List.{List, [], _∷_, map}
+use Rattle.ground.specs.Cell.{spaces}
+use Rattle.wire.specs.declared.Head.the-variants as head
+use Rattle.numbers.specs.Numbers.{numbersFresh}
+use Rattle.ends_console.specs.Fields.{consoleWith, freshConsole, downedConsole}
+use Rattle.ends_controller.specs.Fields.{controllerWith, freshController, downedController}
+use Rattle.ends.specs.Packets.{zeros}
+use Rattle.ends.specs.declared.Report.{Report}
+use Rattle.ends.specs.declared.Report.the-variants.{Nothing, Delivered, Ok, Lost, Refused}
+use Rattle.ends_console.specs.declared.Mode.the-variants.{NeedI, Send}
+use Rattle.ends_controller.specs.declared.Mode.the-variants.{Accept, Ack}
+use Rattle.ends_console.specs.declared.fields.Console.{Console}
+use Rattle.ends_controller.specs.declared.fields.Controller.{Controller}
+use Rattle.alone.proofs.Vectors.{opened, packet, room}
+use Rattle.boundary.specs.State.{marks, told}
+use Rattle.boundary.specs.Console as console
+use Rattle.boundary.specs.Controller as controller
+
+-- ## The byte
+
+abbrev telling : Bool → Bool → List ℕ
+telling sent keep = map (λ (r : Report). told r sent keep) (Nothing ∷ Delivered ∷ Ok ∷ Lost ∷ Refused 15 ∷ [])
+
+pub told-plain : telling false false ≡ 0 ∷ 64 ∷ 65 ∷ 66 ∷ 15 ∷ []
+unfolding marks
+told-plain = refl
+
+pub told-keep : telling false true ≡ 32 ∷ 96 ∷ 97 ∷ 98 ∷ 15 ∷ []
+unfolding marks
+told-keep = refl
+
+pub told-sent : telling true false ≡ 128 ∷ 192 ∷ 193 ∷ 194 ∷ 15 ∷ []
+unfolding marks
+told-sent = refl
+
+pub told-both : telling true true ≡ 160 ∷ 224 ∷ 225 ∷ 226 ∷ 15 ∷ []
+unfolding marks
+told-both = refl
+
+-- ## A console: a state, a letter and a packet in
+
+abbrev console-tells : Console → ℕ → List ℕ → ℕ
+console-tells c l p = console.consoleStep (console.consoleBytes c) l spaces p room .told
+
+abbrev needing : Console
+needing = consoleWith (numbersFresh 1) (NeedI (record { 0 = 1 })) true spaces
+
+abbrev sending : Console
+sending = consoleWith (numbersFresh 1) (Send (record { 0 = 3 })) true spaces
+
+-- P takes a number, and none is left at the last; Q and D send; C and V take none
+pub console-letters-tell : console-tells (freshConsole (record { 0 = 0 })) 0x50 [] ∷ console-tells (freshConsole (record { 0 = 4294967295 })) 0x50 [] ∷ console-tells needing 0x51 [] ∷ console-tells sending 0x44 [] ∷ console-tells sending 0x43 [] ∷ console-tells (downedConsole (record { 0 = 1 })) 0x56 [] ∷ [] ≡ 32 ∷ 8 ∷ 128 ∷ 128 ∷ 0 ∷ 0 ∷ []
+unfolding opened marks console.consoleBytes console.consoleAt console.isState console.fieldsAt
+console-letters-tell = refl
+
+-- S: an offer is taken, OK is answered with done, lost with nothing
+pub console-packets-tell : console-tells needing 0x53 (packet (head.Offer (record { 0 = 1 }) (record { 0 = 3 })) zeros) ∷ console-tells sending 0x53 (packet (head.Ok (record { 0 = 3 })) zeros) ∷ console-tells sending 0x53 (packet (head.Lost (record { 0 = 3 })) zeros) ∷ [] ≡ 0 ∷ 193 ∷ 66 ∷ []
+unfolding opened marks console.consoleBytes console.consoleAt console.isState console.fieldsAt
+console-packets-tell = refl
+
+-- ## A controller, likewise
+
+abbrev controller-tells : Controller → ℕ → List ℕ → ℕ
+controller-tells c l p = controller.controllerStep (controller.controllerBytes c) l p room spaces .told
+
+abbrev accepting : Controller
+accepting = controllerWith (numbersFresh 3) (Accept (record { 0 = 1 }) (record { 0 = 3 })) true
+
+abbrev acking : Controller
+acking = controllerWith (numbersFresh 3) (Ack (record { 0 = 3 })) true
+
+-- O and K send; X and Y take no number
+pub controller-letters-tell : controller-tells accepting 0x4F [] ∷ controller-tells acking 0x4B [] ∷ controller-tells accepting 0x58 [] ∷ controller-tells (downedController (record { 0 = 3 })) 0x59 [] ∷ [] ≡ 128 ∷ 128 ∷ 0 ∷ 0 ∷ []
+unfolding opened marks controller.controllerBytes controller.controllerAt controller.isState controller.fieldsAt
+controller-letters-tell = refl
+
+-- R: needI takes a number; data is delivered and answered with OK, a repeat with nothing, an old one with lost; done is answered with nothing
+pub controller-packets-tell : controller-tells (freshController (record { 0 = 2 })) 0x52 (packet (head.NeedI (record { 0 = 1 })) zeros) ∷ controller-tells accepting 0x52 (packet (head.Data (record { 0 = 3 })) spaces) ∷ controller-tells acking 0x52 (packet (head.Data (record { 0 = 3 })) spaces) ∷ controller-tells acking 0x52 (packet (head.Data (record { 0 = 2 })) spaces) ∷ controller-tells acking 0x52 (packet (head.Done (record { 0 = 3 })) zeros) ∷ [] ≡ 32 ∷ 192 ∷ 0 ∷ 128 ∷ 0 ∷ []
+unfolding opened marks controller.controllerBytes controller.controllerAt controller.isState controller.fieldsAt
+controller-packets-tell = refl

@@ -9,8 +9,8 @@ timer=/usr/bin/time
     exit 2
 }
 mkdir -p target/measure
-all=$(sed -n 's/^\([a-z0-9]*\):.*/\1/p' crates.txt)
-printf '%-12s %8s %8s\n' crate seconds MB
+all=$(sed -n 's/^\([a-z0-9_]*\):.*/\1/p' crates.txt)
+printf '%-16s %8s %8s\n' crate seconds MB
 for crate in ${*:-$all}; do
     rt check "$crate" >target/measure/check.log 2>&1 || {
         tail -n 5 target/measure/check.log >&2
@@ -18,5 +18,5 @@ for crate in ${*:-$all}; do
     }
     rm "target/stamp/$crate"
     "$timer" -f '%e %M' -o target/measure/memory rt check "$crate" >target/measure/check.log 2>&1
-    awk -v crate="$crate" '{ printf "%-12s %8.1f %8d\n", crate, $1, $2 / 1024 }' target/measure/memory
+    awk -v crate="$crate" '{ printf "%-16s %8.1f %8d\n", crate, $1, $2 / 1024 }' target/measure/memory
 done

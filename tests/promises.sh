@@ -94,8 +94,8 @@ unpromised() {
             $5 != seen + 0 { print of ": " $5 " buffers lent to be written, the lemma sees " seen }
             $0 !~ /≡/ && of != "channels::bytes_fit" { print of ": no equation" }
         '
-        for definition in $(printf '%s\n' "$row" | awk -F ' [|] ' '{ print $3 }' | grep -oE '\.[A-Za-z-]+`' | tr -d '.`'); do
-            head_of "$function" | grep -qE "[^A-Za-z-]$definition[^A-Za-z-]" || echo "$function: its promise does not cite $definition"
+        for definition in $(printf '%s\n' "$row" | awk -F ' [|] ' '{ print $3 }' | grep -oE '\.[A-Za-z0-9-]+`' | tr -d '.`'); do
+            head_of "$function" | grep -qE "[^A-Za-z0-9-]$definition[^A-Za-z0-9-]" || echo "$function: its promise does not cite $definition"
         done
     done < "$dir/public"
 }
@@ -107,7 +107,7 @@ lacking() {
         { entry = $1; sub(/^[|] /, "", entry) }
         NF != 7 { print entry ": " NF " cells"; next }
         $3 !~ /^`/ { print entry ": no definition" }
-        $4 !~ /^`[a-z0-9]+\/[A-Z][A-Za-z]*\.[a-z-]+-determined`$/ { print entry ": no determinacy lemma" }
+        $4 !~ /^`[a-z0-9_]+\/[A-Z][A-Za-z]*\.[a-z-]+-determined`$/ { print entry ": no determinacy lemma" }
         {
             split("", shut); count = 0; text = $wrong
             while (match(text, /`([a-z0-9_]+\/(Wrong[A-Za-z]*|Echoes)\.[^` ]+|([a-z_]+\/)?[A-Za-z0-9_]+\.edit)`/)) {
@@ -232,7 +232,7 @@ names() {
 pinned() {
     awk -F ' [|] ' '/^\| [0-9]+ \|/ {
         text = $NF; waiting = 0
-        while (match(text, /`[A-Za-z][A-Za-z0-9-]*`|\([a-z0-9]+\)/)) {
+        while (match(text, /`[A-Za-z][A-Za-z0-9-]*`|\([a-z0-9_]+\)/)) {
             part = substr(text, RSTART + 1, RLENGTH - 2); closes = substr(text, RSTART, 1) == "("; text = substr(text, RSTART + RLENGTH)
             if (!closes) { waiting++; name[waiting] = part; continue }
             for (k = 1; k <= waiting; k++) print FNR, name[k], part

@@ -276,7 +276,7 @@ offered > "$dir/offered"
 check "inner functions that a page offers" "$dir/offered"
 sentences > "$dir/sentences"
 check "the demands, and the sentences in the table" "$dir/sentences"
-for page in docs/PROMISES.md docs/READING.md docs/TRACE.md docs/DECISIONS.md docs/BOXES.md README.md; do
+for page in docs/PROMISES.md docs/READING.md docs/TRACE.md docs/DECISIONS.md docs/MAP.md docs/BOXES.md README.md; do
     names "$page" > "$dir/names"
     check "names that don't exist" "$dir/names"
 done

@@ -40,7 +40,7 @@ use Rattle.ends_console.specs.AsRules as console
 use Rattle.ends_controller.specs.AsRules as controller
 use Rattle.ends_controller.proofs.MessageBeside.{same-unknown}
 use Rattle.bench.specs.Arriving.{nothingCame, cameOut, cameFor}
-use Rattle.bench.specs.ByModes.{InRules, Known, Offers, Arrived, Few, OnConsole, OnController, OnLosing, toldAs, shownOf, modesMoved, modesMeans, modesStep, actionOf}
+use Rattle.bench.specs.ByModes.{RulesOutcome, Known, Offers, Arrived, Few, OnConsole, OnController, OnLosing, toldAs, shownOf, modesMoved, modesMeans, modesStep, actionOf}
 use Rattle.bench.specs.Loaded.{Well, loadedMeans, offeredBy, movedBy, steppedAs, loadedStep}
 use Rattle.bench.specs.declared.Action.{Action}
 use Rattle.bench.specs.declared.arriving.Came.{Came}
@@ -176,7 +176,7 @@ module _ (b : Loaded) (out back : List ℕ) (k : Well b out back) where
     module _ (told : Told) {r : Stepped} (out′ back′ : List ℕ) (e : toldAs told o out′ back′ ≡ modesStep (b .modes) o out back line a) (g : r ≡ movedBy (b .console) (b .controller) told) where
       after-is : modesMoved (told .after) o (told .console) (told .controller) out′ back′ ≡ O .after
       unfolding toldAs modesStep shownOf
-      after-is = ap (λ (x : InRules Offer). x .after) e
+      after-is = ap (λ (x : RulesOutcome Offer). x .after) e
 
       there : (Taken-one (moveMeans (told .console)) → ends.absent (numbering .next (numbersMeans (b .console))) ≡ false)
           × (Taken-one (moveMeans (told .controller)) → ends.absent (numbering .next (numbersMeans (b .controller))) ≡ false)

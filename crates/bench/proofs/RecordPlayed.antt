@@ -32,7 +32,7 @@ use Rattle.bench.specs.AsRules.{benchOk, benchMeans, benchBack}
 use Rattle.bench.specs.Promise.{Result, benchRefused, benchTold, benchStep}
 use Rattle.bench.specs.Reports.{letterCell, reportCells, reportLine}
 use Rattle.bench.specs.Running.{usesOf, actionWith, actionAs, listAction, playedAs, played}
-use Rattle.bench.specs.ByModes.{InRules, shownOf, actionOf}
+use Rattle.bench.specs.ByModes.{RulesOutcome, shownOf, actionOf}
 use Rattle.bench.specs.Loaded.{Well, steppedAs, loadedMeans, loadedStep, benchOf, outcomeOf, FoundLined, recordOutcome, lineStep, recordStep, Played}
 use Rattle.bench.specs.declared.Bench.{Bench}
 use Rattle.bench.specs.declared.loaded.Loaded.{Loaded}
@@ -56,7 +56,7 @@ module _ (b : Loaded) (out back s : List ℕ) (k : Well b out back) where
     unfolding lineStep if_then_else_
     line-refused f q = refused-1 q ∙ rw (← e, f)
 
-    pub line-played : {w : InRules Numbers} → r .fits ≡ true → w ≡ loadedStep b out back l (actionWith l r) → w ≡ lineStep b out back l s
+    pub line-played : {w : RulesOutcome Numbers} → r .fits ≡ true → w ≡ loadedStep b out back l (actionWith l r) → w ≡ lineStep b out back l s
     unfolding lineStep loadedStep if_then_else_
     line-played f q = q ∙ rw (← e, f)
 
@@ -65,7 +65,7 @@ module _ (b : Loaded) (out back s : List ℕ) (k : Well b out back) where
     unfolding recordStep
     play-refused h q = refused-1 q ∙ ap (λ (x : Found). shownOf (recordOutcome x s b out back)) (sym h ∙ e)
 
-    pub play-line : {l : Line} {w : InRules Numbers} → f ≡ found.Line l → w ≡ lineStep b out back l s → w ≡ recordStep b out back s
+    pub play-line : {l : Line} {w : RulesOutcome Numbers} → f ≡ found.Line l → w ≡ lineStep b out back l s → w ≡ recordStep b out back s
     unfolding recordStep lineStep
     play-line h q = q ∙ ap (λ (x : Found). shownOf (recordOutcome x s b out back)) (sym h ∙ e)
 
@@ -91,11 +91,11 @@ outcome-ok (found.Line l) s b out back k =
 known-after : (t : Stepped) (out back : List ℕ) (o : rules.Outcome Numbers (List ℕ)) → Well-formed numbering isMessage (o .after) → steppedAs t out back ≡ shownOf o → Well (t .after) out back
 unfolding steppedAs shownOf
 known-after t out back o w e =
-    let a : loadedMeans (t .after) out back ≡ o .after = ap (λ (x : InRules Numbers). x .after) e in
+    let a : loadedMeans (t .after) out back ≡ o .after = ap (λ (x : RulesOutcome Numbers). x .after) e in
     record {
       well-formed = subst (Well-formed numbering isMessage) (sym a) w;
-      out-holds = ap (λ (x : InRules Numbers). x .out) e ∙ ap (λ (x : rules.Bench Numbers (List ℕ)). channel toControllerBytes (x .toController)) (sym a);
-      back-holds = ap (λ (x : InRules Numbers). x .back) e ∙ ap (λ (x : rules.Bench Numbers (List ℕ)). channel toConsoleBytes (x .toConsole)) (sym a);
+      out-holds = ap (λ (x : RulesOutcome Numbers). x .out) e ∙ ap (λ (x : rules.Bench Numbers (List ℕ)). channel toControllerBytes (x .toController)) (sym a);
+      back-holds = ap (λ (x : RulesOutcome Numbers). x .back) e ∙ ap (λ (x : rules.Bench Numbers (List ℕ)). channel toConsoleBytes (x .toConsole)) (sym a);
     }
 
 -- ## The promise's step

@@ -66,10 +66,10 @@ take-7 u p h e k =
 
 module _ (b : Modes) (o : Offered) (out back : List ℕ) (a : Action) (k : Known b out back) where
   -- what is relied on, by who is asked
-  abbrev Right : Line → Came → Asks → Type 0
-  Right line came (asks.Console ask) = OnConsole b o out back line a ask came
-  Right line came (asks.Controller ask) = OnController b o out back line a ask came
-  Right line came asks.NoEnd = OnLosing b o out back line a
+  abbrev Relied : Line → Came → Asks → Type 0
+  Relied line came (asks.Console ask) = OnConsole b o out back line a ask came
+  Relied line came (asks.Controller ask) = OnController b o out back line a ask came
+  Relied line came asks.NoEnd = OnLosing b o out back line a
 
   abbrev FewOf : letters.Letter → Type 0
   FewOf l = (lineOf l .copies && ltb 3 (a .copies)) ≡ false
@@ -84,7 +84,7 @@ module _ (b : Modes) (o : Offered) (out back : List ℕ) (a : Action) (k : Known
   loud : {A : Type 0} (l : letters.Letter) → lineOf l .copies ≡ true → lineOf l .copies ≡ false → A
   loud l t f = absurd (true≢false (sym t ∙ f))
 
-  by-letter : (l : letters.Letter) → FewOf l → Unknown (came-to l) → Offers (o .j .0) → Offers (o .i .0) → Right (lineOf l) (came-to l) (lineOf l .asks)
+  by-letter : (l : letters.Letter) → FewOf l → Unknown (came-to l) → Offers (o .j .0) → Offers (o .i .0) → Relied (lineOf l) (came-to l) (lineOf l .asks)
   unfolding Lined lineOf letters.line rules.asks rules.takes if_then_else_ ends.console-acts ends.console-turn ends.controller-acts ends.controller-turn ends.controller-rules modesMoved
   by-letter letters.P-put f u oj oi = record { begun = record { lined = refl; few = f }; offers = oj; asks = refl; takes = refl; message = refl; silent = λ _ e. puts-sends _ _ _ }
   by-letter letters.Q-need f u oj oi = record { begun = record { lined = refl; few = f }; offers = oj; asks = refl; takes = refl; message = refl; silent = λ t. loud letters.Q-need refl t }
@@ -117,19 +117,19 @@ module _ (b : Modes) (o : Offered) (out back : List ℕ) (a : Action) (k : Known
   by-letter letters.M-lose f u oj oi = record { begun = record { lined = refl; few = f }; asks = refl; takes = refl; takes-one = tt; place = refl }
 
   module _ (line : Line) (came : Came) (n : Few line a) (c : Arrived b o out back line a came) where
-    right : Right line came (line .asks)
+    relied : Relied line came (line .asks)
     unfolding Lined
-    right =
+    relied =
         let x = subst (λ (y : Came). Unknown y) (c .came-is ∙ ap (λ (y : Line). cameFor (y .asks) out (b .sent) back (b .returned) (a .place)) (n .lined)) (c .unknown-is) in
-        subst (λ (y : Came). Right line y (line .asks)) (sym (c .came-is))
-        (subst (λ (y : Line). Right y (cameFor (y .asks) out (b .sent) back (b .returned) (a .place)) (y .asks)) (sym (n .lined))
+        subst (λ (y : Came). Relied line y (line .asks)) (sym (c .came-is))
+        (subst (λ (y : Line). Relied y (cameFor (y .asks) out (b .sent) back (b .returned) (a .place)) (y .asks)) (sym (n .lined))
         (by-letter (letterOf line) (ap (λ (y : Line). y .copies && ltb 3 (a .copies)) (sym (n .lined)) ∙ n .few) x (c .j-offered) (c .i-offered)))
 
     pub asked-console : {ask : ConsoleAsk} → line .asks ≡ asks.Console ask → OnConsole b o out back line a ask came
-    asked-console h = subst (Right line came) h right
+    asked-console h = subst (Relied line came) h relied
 
     pub asked-controller : {ask : ControllerAsk} → line .asks ≡ asks.Controller ask → OnController b o out back line a ask came
-    asked-controller h = subst (Right line came) h right
+    asked-controller h = subst (Relied line came) h relied
 
     pub asked-no-end : line .asks ≡ asks.NoEnd → OnLosing b o out back line a
-    asked-no-end h = subst (Right line came) h right
+    asked-no-end h = subst (Relied line came) h relied

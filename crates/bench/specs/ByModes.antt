@@ -93,18 +93,18 @@ pub record Arrived (b : Modes) (o : Offered) (out back : List ℕ) (line : Line)
 -- ## The step
 
 -- an outcome of the rules with what the code shows of it
-pub record InRules (S : Type 0) : Type 0 where
+pub record RulesOutcome (S : Type 0) : Type 0 where
   pub report : Report
   pub message : List ℕ
   pub after : rules.Bench S (List ℕ)
   pub out : List ℕ
   pub back : List ℕ
 
-unfoldable pub toldAs : Told → Offered → List ℕ → List ℕ → InRules Offer
+unfoldable pub toldAs : Told → Offered → List ℕ → List ℕ → RulesOutcome Offer
 toldAs r o out back =
     record { report = r .report; message = r .message; after = modesMoved (r .after) o (r .console) (r .controller) out back; out = out; back = back }
 
-unfoldable pub shownOf : {S : Type 0} → rules.Outcome S (List ℕ) → InRules S
+unfoldable pub shownOf : {S : Type 0} → rules.Outcome S (List ℕ) → RulesOutcome S
 shownOf o =
     record {
       report = reportBack (o .report);
@@ -117,7 +117,7 @@ shownOf o =
 unfoldable pub actionOf : Line → Action → rules.Action (List ℕ)
 actionOf line a = rules.action (letterOf line) (a .place) (a .copies) (a .message)
 
-unfoldable pub modesStep : Modes → Offered → List ℕ → List ℕ → Line → Action → InRules Offer
+unfoldable pub modesStep : Modes → Offered → List ℕ → List ℕ → Line → Action → RulesOutcome Offer
 modesStep b o out back line a = shownOf (rules.step offered isMessage (modesMeans b o out back) (actionOf line a))
 
 -- ## What is known on the way: 10 doesn't apply, and who is asked

@@ -37,7 +37,7 @@ use Rattle.ends_controller.specs.declared.End as controller-end
 use Rattle.ends_controller.specs.declared.fields.Controller.{Controller}
 use Rattle.channels.specs.Packets.{toControllerBytes, toControllerRead, toConsoleBytes, toConsoleRead}
 use Rattle.channels.specs.Table.{channel, packets}
-use Rattle.bench.specs.ByModes.{InRules, shownOf, actionOf}
+use Rattle.bench.specs.ByModes.{RulesOutcome, shownOf, actionOf}
 use Rattle.bench.specs.Promise.{Result, stepOf}
 use Rattle.bench.specs.Reports.{reportLine}
 use Rattle.bench.specs.Running.{usesOf, actionWith, played, lines, recordsOf, limitOf}
@@ -87,10 +87,10 @@ movedBy c d told =
 
 -- ## The step
 
-unfoldable pub steppedAs : Stepped → List ℕ → List ℕ → InRules supply.Numbers
+unfoldable pub steppedAs : Stepped → List ℕ → List ℕ → RulesOutcome supply.Numbers
 steppedAs r out back = record { report = r .report; message = r .message; after = loadedMeans (r .after) out back; out = out; back = back }
 
-unfoldable pub loadedStep : Loaded → List ℕ → List ℕ → Line → Action → InRules supply.Numbers
+unfoldable pub loadedStep : Loaded → List ℕ → List ℕ → Line → Action → RulesOutcome supply.Numbers
 loadedStep b out back line a = shownOf (rules.step numbering isMessage (loadedMeans b out back) (actionOf line a))
 
 -- ## Between the fields and the modes
@@ -144,10 +144,10 @@ abbrev pub recordOutcome : Found → List ℕ → Loaded → List ℕ → List �
 recordOutcome found.Nothing s b out back = record { report = ends.refused 1; after = loadedMeans b out back }
 recordOutcome (found.Line l) s b out back = fieldsOutcome l (listRecord (usesOf l) s) b out back
 
-unfoldable pub lineStep : Loaded → List ℕ → List ℕ → Line → List ℕ → InRules supply.Numbers
+unfoldable pub lineStep : Loaded → List ℕ → List ℕ → Line → List ℕ → RulesOutcome supply.Numbers
 lineStep b out back l s = shownOf (recordOutcome (found.Line l) s b out back)
 
-unfoldable pub recordStep : Loaded → List ℕ → List ℕ → List ℕ → InRules supply.Numbers
+unfoldable pub recordStep : Loaded → List ℕ → List ℕ → List ℕ → RulesOutcome supply.Numbers
 recordStep b out back s = shownOf (recordOutcome (foundOf (letter (getD s 0 0))) s b out back)
 
 -- a record played: its line, and what is known afterwards

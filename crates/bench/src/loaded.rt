@@ -8,7 +8,6 @@ use crate::modes::Told;
 use crate::modes::console_asked;
 use crate::modes::controller_asked;
 use crate::modes::loses;
-use crate::modes::too_many;
 use ends::ForController;
 use ends::Report;
 use ends_controller::acts::is_unknown;
@@ -20,6 +19,8 @@ use numbers::Numbers;
 use wire::I;
 use wire::J;
 ghost use mathlib.Core.Path.{_≡_};
+ghost use mathlib.Core.Bool.{_&&_};
+ghost use lib.Dec.{ltb};
 ghost use Rattle.ground.specs.Cell.{spaces};
 ghost use Rattle.letters.specs.Lines.{Lined};
 ghost use Rattle.bench.specs.ByModes.{Few};
@@ -76,6 +77,12 @@ fn moved(console: Numbers, controller: Numbers, told: Told) -> Stepped
     }
 }
 
+fn too_many(uses: bool, copies: usize) -> bool
+    ensures { λ r. ⌜ r ≡ (uses && ltb 3 copies) ⌝ }
+{
+    if uses { 3 < copies } else { false }
+}
+
 // What the console is asked.
 fn console_step(
     b: Loaded,
@@ -124,7 +131,7 @@ fn controller_step(
     moved(console, controller, told)
 }
 
-// A packet lost asks no end.
+// A packet lost asks no end, and moves no numbers; they are offered and moved as in the other arms, so that one proof serves.
 fn losing_step(b: Loaded, line: Line, a: Action, out: &mut [u8], back: &mut [u8]) -> Stepped
     requires { ⌜ Well b (now out) (now back) ⌝ }
     requires { ⌜ Few line a ⌝ }

@@ -18,8 +18,8 @@ use numbers::Move;
 use wire::I;
 use wire::J;
 ghost use mathlib.Core.Path.{_≡_};
-ghost use mathlib.Core.Bool.{true, false, _&&_};
-ghost use lib.Dec.{ltb, leb};
+ghost use mathlib.Core.Bool.{true, _&&_};
+ghost use lib.Dec.{leb};
 ghost use Rattle.ground.specs.Cell.{spaces, isMessage};
 ghost use Rattle.ground.specs.Choice.{if_then_else_};
 ghost use Rattle.bench.specs.ByModes.{Known, toldAs, modesStep, OnConsole, OnController, OnLosing, ConsoleReady, ControllerReady};
@@ -60,7 +60,7 @@ pub struct Told {
     pub after: Modes,
 }
 
-pub(crate) fn refused(n: u8, b: Modes) -> Told
+fn refused(n: u8, b: Modes) -> Told
     ensures { λ r. ⌜ r ≡ record { report = Report.Refused n; message = spaces; console = Move.Stay; controller = Move.Stay; after = b } ⌝ }
 {
     Told {
@@ -70,12 +70,6 @@ pub(crate) fn refused(n: u8, b: Modes) -> Told
         controller: Move::Stay,
         after: b,
     }
-}
-
-pub(crate) fn too_many(uses: bool, copies: usize) -> bool
-    ensures { λ r. ⌜ r ≡ (uses && ltb 3 copies) ⌝ }
-{
-    if uses { 3 < copies } else { false }
 }
 
 fn no_place(uses: bool, count: usize, place: usize) -> bool
@@ -101,7 +95,7 @@ fn keeps(uses: bool, message: [u8; 16], held: [u8; 16]) -> [u8; 16]
     if uses { message } else { held }
 }
 
-// What a console decided that does not refuse, unless there is no room for what it sends.
+// What a console decided that does not refuse, unless there is no room for what it sends. `next`, `came` and `ask` are there for the promise alone.
 fn console_moves(
     b: Modes,
     d: ends_console::decides::Decided,
@@ -182,7 +176,7 @@ pub(crate) fn console_asked(
     console_moves(b, d, next, came, ask, line, a, out, back)
 }
 
-// What a controller decided that does not refuse, unless there is no room for what it sends.
+// What a controller decided that does not refuse, unless there is no room for what it sends. `next` and `ask` are there for the promise alone.
 fn controller_moves(
     b: Modes,
     d: ends_controller::decides::Decided,
@@ -257,8 +251,8 @@ pub(crate) fn controller_asked(
     controller_moves(b, d, next, came, ask, line, a, out, back)
 }
 
-// A packet lost: nothing to report.
-fn lost(b: Modes, sent: usize, returned: usize) -> Told
+// Nothing to report.
+fn packet_lost(b: Modes, sent: usize, returned: usize) -> Told
     ensures { λ r. ⌜ r ≡ record { report = Report.Nothing; message = spaces; console = Move.Stay; controller = Move.Stay; after = record { console = b .console; controller = b .controller; sent = sent; returned = returned } } ⌝ }
 {
     let mut after = b;
@@ -273,6 +267,7 @@ fn lost(b: Modes, sent: usize, returned: usize) -> Told
     }
 }
 
+// A packet lost on its way. `next` is there for the promise alone.
 pub(crate) fn loses(
     b: Modes,
     next: Offered,
@@ -292,15 +287,15 @@ pub(crate) fn loses(
                 return refused(3, b);
             }
             let returned = take(true, back, b.returned, a.place);
-            lost(b, b.sent, returned)
+            packet_lost(b, b.sent, returned)
         }
         Takes::ToController => {
             if b.sent <= a.place {
                 return refused(3, b);
             }
             let sent = take(true, out, b.sent, a.place);
-            lost(b, sent, b.returned)
+            packet_lost(b, sent, b.returned)
         }
-        Takes::Nothing => lost(b, b.sent, b.returned),
+        Takes::Nothing => packet_lost(b, b.sent, b.returned), // no letter of the table: who asks no end takes a packet
     }
 }

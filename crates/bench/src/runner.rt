@@ -59,7 +59,7 @@ fn play(b: Loaded, part: &[u8], out: &mut [u8], back: &mut [u8]) -> Stepped
 }
 
 // One record: the step, and its line.
-fn turn(
+fn play_record(
     b: Loaded,
     part: &[u8],
     number: usize,
@@ -105,7 +105,7 @@ fn run_on(b: Loaded, input: &[u8], output: &mut [u8], out: &mut [u8], back: &mut
         }
         let end = listing::record_end(start, input.len());
         let line = n * 27;
-        at = turn(
+        at = play_record(
             at,
             &input[start..end],
             n + 1,

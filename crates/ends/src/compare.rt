@@ -1,4 +1,4 @@
-// Where numbers are compared: a J only with a J, an I only with an I. 0 means none.
+// Where numbers are compared with each other: a J only with a J, an I only with an I. 0 means none. (With last used: crate numbers.)
 use wire::I;
 use wire::J;
 ghost use mathlib.Core.Path.{_≡_};

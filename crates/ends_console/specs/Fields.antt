@@ -17,7 +17,8 @@ use Rattle.ends_console.specs.declared.fields.Console.{Console}
 use Rattle.ends_console.specs.declared.fields.ConsoleRead.{ConsoleRead}
 use Rattle.ends_console.specs.declared.fields.ConsoleRead.the-variants as console-read
 
--- with a message held exactly one of j and last is not 0; with none both are 0 and the message is 16 spaces. j is one of its own numbers
+-- its numbers are sound, as any that fit in 32 bits are. With a message held exactly one of j and last is not 0; with none both are 0 and the message
+-- is 16 spaces. j is one of its own numbers
 unfoldable pub consoleOk : Console → Bool
 consoleOk c =
     numbering .sound (numbersMeans (c .numbers))

@@ -14,7 +14,7 @@ use Rattle.ends_controller.specs.declared.fields.Controller.{Controller}
 use Rattle.ends_controller.specs.declared.fields.ControllerRead.{ControllerRead}
 use Rattle.ends_controller.specs.declared.fields.ControllerRead.the-variants as controller-read
 
--- j and i both 0 or neither; i and last are not both set; each of them is one of its own numbers
+-- its numbers are sound, as any that fit in 32 bits are. j and i both 0 or neither; i and last are not both set; each of them is one of its own numbers
 unfoldable pub controllerOk : Controller → Bool
 controllerOk c =
     numbering .sound (numbersMeans (c .numbers))

@@ -1,4 +1,4 @@
 pub mod Asking
 pub mod Determined
-pub mod Scan
+pub mod TableLines
 pub mod Wrong

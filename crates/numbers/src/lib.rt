@@ -1,5 +1,5 @@
-// The numbers of an end, as plain numbers: an end wraps them as its J or its I. next, take, back, is_used and sound are the fields of the rules' supply;
-// fresh starts it, and after is what a step does to it. No function here is an entry: the crates above call them, and docs/PROMISES.md lists why.
+// The numbers of an end, as plain numbers: an end wraps them as its J or its I. next, take, back, is_used and sound are each that field of the rules'
+// supply (take where there is a next one); fresh starts it, and after is what a step does to it. No function here is an entry: the crates above call them, and docs/PROMISES.md lists why.
 ghost use mathlib.Core.Path.{_≡_};
 ghost use Rattle.rules.specs.Supply.{numbering};
 ghost use Rattle.numbers.specs.Numbers.{numbersMeans, numberOr0, numbersFresh, numbersTaken, numbersBack, numbersAfter};

@@ -27,7 +27,7 @@ use Rattle.rules.proofs.BenchBears.{step-bears}
 -- while each of them is used, a number that is newly taken stands nowhere
 module _ {S M : Type 0} where
   -- every J that stands has the property F, every I the property G
-  pub record Standing (F G : ℕ → Type 0) (b : Bench S M) : Type 0 where
+  pub record Borne-by-all (F G : ℕ → Type 0) (b : Bench S M) : Type 0 where
     pub console : Console-bears F G Any (b .console .mode)
     pub controller : Controller-bears F G (b .controller .mode)
     pub to-controller : All (ToController-bears F G Any) (b .toController)
@@ -35,10 +35,10 @@ module _ {S M : Type 0} where
 
   -- every J that stands is used; every I that stands is used
   abbrev pub UJ : Supply S → Bench S M → Type 0
-  UJ U b = Standing (Used U (b .console .numbers)) Any b
+  UJ U b = Borne-by-all (Used U (b .console .numbers)) Any b
 
   abbrev pub UI : Supply S → Bench S M → Type 0
-  UI U b = Standing Any (Used U (b .controller .numbers)) b
+  UI U b = Borne-by-all Any (Used U (b .controller .numbers)) b
 
 -- ## Used numbers, and numbers of which nothing is asked
 
@@ -67,7 +67,7 @@ any-tracked U =
 -- F of the J's and G of the I's, each going with its supply, are kept by every step
 module _ {S M : Type 0} (U : Supply S) (F G : S → ℕ → Type 0) (f : Tracked S U Any F F) (g : Tracked S U Any G G) (good : M → Bool) where
   abbrev Stands : Bench S M → Type 0
-  Stands b = Standing (F (b .console .numbers)) (G (b .controller .numbers)) b
+  Stands b = Borne-by-all (F (b .console .numbers)) (G (b .controller .numbers)) b
 
   pub step-stands : (b : Bench S M) (a : Action M) → Stands b → Stands (step U good b a .after)
   step-stands b a h =

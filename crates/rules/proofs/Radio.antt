@@ -23,7 +23,7 @@ use Rattle.rules.specs.Plain.{Plain}
 use Rattle.rules.specs.Demand3.{row, held-label, write, written, unnumbered, shown}
 use Rattle.rules.specs.Radio.{Link, Happening, acts, kept-and-cut, cut, downed, aired, keeps, goes-on, fails, Came, asked, happens, start, in-happening, fall-of, labelled-happens, row-left, rows-left, shown-of, rows-shown, radio-log, RadioRight}
 use Rattle.rules.proofs.Lists.{all-map, if-holds}
-use Rattle.rules.proofs.Numbers.{Standing, used-tracked}
+use Rattle.rules.proofs.Numbers.{Borne-by-all, used-tracked}
 use Rattle.rules.proofs.Bears.{console-grows, controller-grows}
 use Rattle.rules.proofs.BenchBears.{Bench-bears, Handed, asks-handed, does-bears, weaken-toController, weaken-toConsole, weaken-console, weaken-controller, unchanged}
 use Rattle.rules.proofs.Ends.{controller-reports}
@@ -42,7 +42,7 @@ module _ {S M : Type 0} (U : Supply S) (laws : Lawful S U) where
   Bears z = Bench-bears Any Any (Used U) (Used U) (Used U) (Used U) Any z
 
   abbrev Stands : Bench S M → Type 0
-  Stands b = Standing (Used U (b .console .numbers)) (Used U (b .controller .numbers)) b
+  Stands b = Borne-by-all (Used U (b .console .numbers)) (Used U (b .controller .numbers)) b
 
   -- every number that stands somewhere is used; a refused step adds nothing
   aired-bears : (good : M → Bool) (b : Bench S M) (x : Asked M) → Bears b → Handed Any Any (Used U) (Used U) (Used U) (Used U) Any (b .console .numbers) (b .controller .numbers) x

@@ -21,7 +21,7 @@ use Rattle.rules.specs.Demand3.{row, held-label}
 use Rattle.rules.specs.Radio.{aired}
 use Rattle.rules.proofs.Lists.{all-at, if-holds, if-map}
 use Rattle.rules.proofs.Refusals.{passed}
-use Rattle.rules.proofs.Numbers.{Standing}
+use Rattle.rules.proofs.Numbers.{Borne-by-all}
 use Rattle.rules.proofs.Invariant.{Inv}
 use Rattle.rules.proofs.Turns.{console-takes-good, controller-takes-good}
 use Rattle.rules.proofs.Steps.{Good, S-console, R-controller, by-console, by-controller, unused, console-up, controller-up, P-keeps, Q-keeps, D-keeps, C-keeps, V-keeps, O-keeps, K-keeps, X-keeps, Y-keeps}
@@ -49,7 +49,7 @@ module _ {S M : Type 0} (U : Supply S) (good : M → Bool) (b : Bench S M) where
   aired-is no-end = sym (none-refuses _ _)
 
 module _ {S M : Type 0} (U : Supply S) (laws : Lawful S U) (b : Bench S (Labelled M)) (w : Judge M) (h : Inv S M b w)
-    (k : Standing (Used U (b .console .numbers)) (Used U (b .controller .numbers)) b) (n x : ℕ) (c : M) (good : Labelled M → Bool) (q : n ≡ suc (w .count)) where
+    (k : Borne-by-all (Used U (b .console .numbers)) (Used U (b .controller .numbers)) b) (n x : ℕ) (c : M) (good : Labelled M → Bool) (q : n ≡ suc (w .count)) where
   abbrev held : ℕ
   held = held-label (b .console .mode)
 

@@ -14,7 +14,7 @@ use Rattle.rules.specs.WellFormed.{Used}
 use Rattle.rules.specs.Log.{Labelled, labelled, Event, Log, put-count}
 use Rattle.rules.specs.Judge.{judge}
 use Rattle.rules.specs.Demand3.{write, labelled-step, row-of, rows, written}
-use Rattle.rules.proofs.Numbers.{Standing, step-stands, used-tracked}
+use Rattle.rules.proofs.Numbers.{Borne-by-all, step-stands, used-tracked}
 use Rattle.rules.proofs.Judge.{Allowed, Accepted, counted-puts}
 use Rattle.rules.proofs.Invariant.{Inv, nothing-on}
 use Rattle.rules.proofs.Turns.{judged}
@@ -34,7 +34,7 @@ module _ {S M : Type 0} (U : Supply S) (laws : Lawful S U) (good : M → Bool) w
   pub record Kept (past : Log M) (b : Bench S (Labelled M)) : Type 1 where
     pub accepted : Accepted past
     pub inv : Inv S M b (judge past)
-    pub known : Standing (Used U (b .console .numbers)) (Used U (b .controller .numbers)) b
+    pub known : Borne-by-all (Used U (b .console .numbers)) (Used U (b .controller .numbers)) b
 
   action-keeps : (past : Log M) (b : Bench S (Labelled M)) (a : Action M) → Kept past b
       → Kept (write (row-of U good past b a) past) (labelled-step U good past b a .after)

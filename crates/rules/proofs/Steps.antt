@@ -26,7 +26,7 @@ use Rattle.rules.specs.Judge.{Judge}
 use Rattle.rules.specs.Demand3.{row, held-label}
 use Rattle.rules.proofs.Lists.{all-append, all-copies, all-without, all-at, all-map₂, opt-map₂, if-holds}
 use Rattle.rules.proofs.Refusals.{passed}
-use Rattle.rules.proofs.Numbers.{Standing, unlike}
+use Rattle.rules.proofs.Numbers.{Borne-by-all, unlike}
 use Rattle.rules.proofs.Judge.{Allowed}
 use Rattle.rules.proofs.Invariant.{Inv, ready-up, ready-down, View, view, Up, Down, nothing-on, stay}
 use Rattle.rules.proofs.ConsoleMoves.{rest}
@@ -73,7 +73,7 @@ puts-says none s m = refl
 puts-says (some j) s m = refl
 
 module _ {S M : Type 0} (U : Supply S) (laws : Lawful S U) (b : Bench S (Labelled M)) (w : Judge M) (h : Inv S M b w)
-    (k : Standing (Used U (b .console .numbers)) (Used U (b .controller .numbers)) b) where
+    (k : Borne-by-all (Used U (b .console .numbers)) (Used U (b .controller .numbers)) b) where
   abbrev F : ℕ → Type 0
   F = Used U (b .console .numbers)
 

@@ -1,3 +1,4 @@
+-- `bench::console_is_read` meets its contract.
 use borrow.Author.Needs.{needs}
 use Rattle.bench.proofs.StepEntry.{controller-ill, controller-is}
 use Rattle.bench.proofs.console_is_read.Statement.{statement}

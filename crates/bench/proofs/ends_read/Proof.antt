@@ -1,3 +1,4 @@
+-- `bench::ends_read` meets its contract.
 use borrow.Author.Needs.{needs}
 use Rattle.bench.proofs.BenchRead.{well-so}
 use Rattle.bench.proofs.StepEntry.{tables-ill, ends-step}

@@ -1,3 +1,4 @@
+-- `bench::fresh` meets its contract.
 use borrow.Author.Needs.{needs}
 use Rattle.bench.proofs.StepEntry.{freshes}
 use Rattle.bench.proofs.fresh.Statement.{statement}

@@ -1,3 +1,4 @@
+-- `bench::lined_step` meets its contract.
 use borrow.Author.Needs.{needs}
 use Rattle.bench.proofs.StepEntry.{console-ill, console-is}
 use Rattle.bench.proofs.lined_step.Statement.{statement}

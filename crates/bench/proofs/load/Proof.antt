@@ -1,3 +1,4 @@
+-- `bench::load` meets its contract.
 use borrow.Author.Needs.{needs}
 use Rattle.bench.specs.Loaded.{loadedOf}
 use Rattle.bench.proofs.load.Statement.{statement}

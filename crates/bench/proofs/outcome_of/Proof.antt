@@ -1,3 +1,4 @@
+-- `bench::outcome_of` meets its contract.
 use borrow.Author.Needs.{needs}
 use Rattle.bench.specs.Loaded.{outcomeOf}
 use Rattle.bench.proofs.outcome_of.Statement.{statement}

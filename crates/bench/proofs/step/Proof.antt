@@ -1,3 +1,4 @@
+-- `bench::step` meets its contract.
 use borrow.Author.Needs.{needs}
 use Rattle.bench.proofs.StepEntry.{lined-so, step-unknown, step-lined}
 use Rattle.bench.proofs.step.Statement.{statement}

@@ -1,3 +1,4 @@
+-- `bench::tables_ok` meets its contract.
 use borrow.Author.Needs.{needs}
 use Rattle.bench.proofs.BenchRead.{out-ill, out-ok}
 use Rattle.bench.proofs.tables_ok.Statement.{statement}

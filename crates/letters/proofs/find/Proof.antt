@@ -1,10 +1,11 @@
+-- `letters::find` meets its contract.
 use mathlib.Core.Path.{refl}
 use borrow.Author.Needs.{needs}
 use Rattle.ground.specs.Choice.{if_then_else_}
 use Rattle.rules.specs.Bench.{at}
 use Rattle.rules.specs.Letters.{line, letters, among, letter}
 use Rattle.letters.specs.Lines.{foundAt}
-use Rattle.letters.proofs.Scan.{keyed, no-letter}
+use Rattle.letters.proofs.TableLines.{keyed, no-letter}
 use Rattle.letters.proofs.find.Statement.{statement}
 use Rattle.letters.proofs.find.Tie as tie
 

@@ -1,7 +1,8 @@
+-- `letters::line_at` meets its contract.
 use borrow.Author.Needs.{needs}
 use Rattle.rules.specs.Letters.{line, letters}
 use Rattle.letters.specs.Lines.{lineOf}
-use Rattle.letters.proofs.Scan.{at-line}
+use Rattle.letters.proofs.TableLines.{at-line}
 use Rattle.letters.proofs.line_at.Statement.{statement}
 use Rattle.letters.proofs.line_at.Tie as tie
 

@@ -1,3 +1,4 @@
+-- `list::play` meets its contract.
 use borrow.Author.Needs.{needs}
 use Rattle.bench.proofs.Running.{ran-fits, ran-prefix}
 use Rattle.list.proofs.play.Statement.{statement}

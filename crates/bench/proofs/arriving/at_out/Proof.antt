@@ -1,3 +1,4 @@
+-- `bench::arriving::at_out` meets its contract.
 use borrow.Author.Needs.{needs}
 use Rattle.bench.proofs.PacketAtPlace.{arrivals}
 use Rattle.bench.proofs.arriving.at_out.Statement.{statement}

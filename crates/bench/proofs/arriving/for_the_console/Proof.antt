@@ -1,3 +1,4 @@
+-- `bench::arriving::for_the_console` meets its contract.
 use borrow.Author.Needs.{needs}
 use Rattle.bench.proofs.arriving.for_the_console.Statement.{statement}
 use Rattle.bench.proofs.arriving.for_the_console.Tie as tie

@@ -1,3 +1,4 @@
+-- `bench::arriving::for_the_controller` meets its contract.
 use borrow.Author.Needs.{needs}
 use Rattle.bench.proofs.arriving.for_the_controller.Statement.{statement}
 use Rattle.bench.proofs.arriving.for_the_controller.Tie as tie

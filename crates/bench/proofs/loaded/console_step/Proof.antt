@@ -1,3 +1,4 @@
+-- `bench::loaded::console_step` meets its contract.
 use borrow.Author.Needs.{needs}
 use Rattle.bench.proofs.NumbersMoved.{known-modes, on-console, console-stepped}
 use Rattle.bench.proofs.loaded.console_step.Statement.{statement}

@@ -1,3 +1,4 @@
+-- `bench::loaded::controller_step` meets its contract.
 use borrow.Author.Needs.{needs}
 use Rattle.bench.proofs.NumbersMoved.{known-modes, on-controller, controller-stepped}
 use Rattle.bench.proofs.loaded.controller_step.Statement.{statement}

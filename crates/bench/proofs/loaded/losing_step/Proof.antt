@@ -1,3 +1,4 @@
+-- `bench::loaded::losing_step` meets its contract.
 use borrow.Author.Needs.{needs}
 use Rattle.bench.proofs.NumbersMoved.{known-modes, on-losing, losing-stepped}
 use Rattle.bench.proofs.loaded.losing_step.Statement.{statement}

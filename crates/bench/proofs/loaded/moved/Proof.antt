@@ -1,3 +1,4 @@
+-- `bench::loaded::moved` meets its contract.
 use borrow.Author.Needs.{needs}
 use Rattle.bench.proofs.loaded.moved.Statement.{statement}
 use Rattle.bench.proofs.loaded.moved.Tie as tie

@@ -1,3 +1,4 @@
+-- `bench::loaded::offers` meets its contract.
 use borrow.Author.Needs.{needs}
 use Rattle.bench.proofs.loaded.offers.Statement.{statement}
 use Rattle.bench.proofs.loaded.offers.Tie as tie

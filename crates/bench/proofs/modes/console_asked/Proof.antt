@@ -1,3 +1,4 @@
+-- `bench::modes::console_asked` meets its contract.
 use borrow.Author.Needs.{needs}
 use Rattle.bench.proofs.ConsoleByModes.{console-refused, console-absent, console-ready}
 use Rattle.bench.proofs.modes.console_asked.Statement.{statement}

@@ -1,3 +1,4 @@
+-- `bench::modes::console_moves` meets its contract.
 use borrow.Author.Needs.{needs}
 use Rattle.bench.proofs.ConsoleByModes.{console-full, console-room, console-done}
 use Rattle.bench.proofs.modes.console_moves.Statement.{statement}

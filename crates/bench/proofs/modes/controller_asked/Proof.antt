@@ -1,3 +1,4 @@
+-- `bench::modes::controller_asked` meets its contract.
 use borrow.Author.Needs.{needs}
 use Rattle.bench.proofs.ControllerByModes.{controller-refused, controller-unknown, controller-absent, controller-ready}
 use Rattle.bench.proofs.modes.controller_asked.Statement.{statement}

@@ -1,3 +1,4 @@
+-- `bench::modes::controller_moves` meets its contract.
 use borrow.Author.Needs.{needs}
 use Rattle.bench.proofs.ControllerByModes.{controller-full, controller-room, controller-done}
 use Rattle.bench.proofs.modes.controller_moves.Statement.{statement}

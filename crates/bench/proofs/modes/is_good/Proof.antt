@@ -1,3 +1,4 @@
+-- `bench::modes::is_good` meets its contract.
 use borrow.Author.Needs.{needs}
 use Rattle.ground.specs.Choice.{if_then_else_}
 use Rattle.bench.proofs.modes.is_good.Statement.{statement}

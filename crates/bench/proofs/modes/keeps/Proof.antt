@@ -1,3 +1,4 @@
+-- `bench::modes::keeps` meets its contract.
 use Rattle.bench.proofs.modes.keeps.Statement.{statement}
 use Rattle.bench.proofs.modes.keeps.Tie as tie
 use Rattle.ground.specs.Choice.{if_then_else_}

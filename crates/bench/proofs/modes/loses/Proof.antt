@@ -1,3 +1,4 @@
+-- `bench::modes::loses` meets its contract.
 use borrow.Author.Needs.{needs}
 use Rattle.bench.proofs.LostByModes.{losings}
 use Rattle.bench.proofs.modes.loses.Statement.{statement}

@@ -1,3 +1,4 @@
+-- `bench::modes::no_place` meets its contract.
 use borrow.Author.Needs.{needs}
 use Rattle.bench.proofs.modes.no_place.Statement.{statement}
 use Rattle.bench.proofs.modes.no_place.Tie as tie

@@ -1,3 +1,4 @@
+-- `bench::runner::limit_of` meets its contract.
 use Rattle.bench.proofs.Running.{limits}
 use Rattle.bench.proofs.runner.limit_of.Statement.{statement}
 use Rattle.bench.proofs.runner.limit_of.Tie as tie

@@ -1,3 +1,4 @@
+-- `bench::runner::run` meets its contract.
 use borrow.Author.Needs.{needs}
 use Rattle.bench.proofs.Running.{starts-known, starts-run}
 use Rattle.bench.proofs.runner.run.Statement.{statement}

@@ -44,7 +44,19 @@ run-on-spec =
     (λ c κs. (search needs, (search record-some, search line-long)))
     (λ c. search needs)
     (λ c. search needs)
-    (λ c. (search needs, search needs, search needs, search needs, search needs, search needs, search needs, along-turn _ _ _ _ _ _ _ _ _ (c .before .before .before .before .before .before .before .before .before .before .before .before .before .before .loop .inv .7) (search needs) (c .before .before .before .before .before .before .before .before .before .before .before .before .before .before .loop .inv .2) (search needs) (c .before .before .before .before .before .before .before .before .before .before .before .record-end .ensures) (c .before .before .before .before .before .before .turn .ensures) (search (line-long, needs))))
+    (λ c. (
+      search needs,
+      search needs,
+      search needs,
+      search needs,
+      search needs,
+      search needs,
+      search needs,
+      let played = c .before .before .before .before .before .before in
+          let ended = played .before .before .before .before .before in
+          let start = ended .before .before .before in
+          along-turn _ _ _ _ _ _ _ _ _ (start .loop .inv .7) (search needs) (start .loop .inv .2) (search needs) (ended .record-end .ensures) (played .play-record .ensures) (search (line-long, needs)),
+    ))
     (λ c. search needs)
     (λ c. search needs)
     (λ c. search needs)

@@ -1,3 +1,4 @@
+-- `bench::runner::starts` meets its contract.
 use borrow.Author.Needs.{needs}
 use Rattle.bench.proofs.runner.starts.Statement.{statement}
 use Rattle.bench.proofs.runner.starts.Tie as tie

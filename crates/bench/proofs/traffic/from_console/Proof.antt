@@ -1,3 +1,4 @@
+-- `bench::traffic::from_console` meets its contract.
 use borrow.Author.Needs.{needs}
 use Rattle.ends.specs.Packets.{toControllerSent}
 use Rattle.bench.proofs.traffic.from_console.Statement.{statement}

@@ -1,3 +1,4 @@
+-- `bench::traffic::from_controller` meets its contract.
 use borrow.Author.Needs.{needs}
 use Rattle.ends.specs.Packets.{toConsoleSent}
 use Rattle.bench.proofs.traffic.from_controller.Statement.{statement}

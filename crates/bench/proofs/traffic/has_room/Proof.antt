@@ -1,3 +1,4 @@
+-- `bench::traffic::has_room` meets its contract.
 use Rattle.bench.proofs.Rooms.{rooms}
 use Rattle.bench.proofs.traffic.has_room.Statement.{statement}
 use Rattle.bench.proofs.traffic.has_room.Tie as tie

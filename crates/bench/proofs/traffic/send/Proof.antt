@@ -1,3 +1,4 @@
+-- `bench::traffic::send` meets its contract.
 use borrow.Author.Needs.{needs}
 use Rattle.bench.proofs.Rooms.{sum-fits, sendings}
 use Rattle.bench.proofs.traffic.send.Statement.{statement}

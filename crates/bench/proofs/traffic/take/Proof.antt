@@ -1,3 +1,4 @@
+-- `bench::traffic::take` meets its contract.
 use borrow.Author.Needs.{needs}
 use Rattle.bench.proofs.Rooms.{takings}
 use Rattle.bench.proofs.traffic.take.Statement.{statement}

@@ -1,6 +1,7 @@
+-- `bench::loaded::too_many` meets its contract.
 use borrow.Author.Needs.{needs}
-use Rattle.bench.proofs.modes.too_many.Statement.{statement}
-use Rattle.bench.proofs.modes.too_many.Tie as tie
+use Rattle.bench.proofs.loaded.too_many.Statement.{statement}
+use Rattle.bench.proofs.loaded.too_many.Tie as tie
 
 pub too-many-spec : {M : Type 1} → statement M
 too-many-spec =

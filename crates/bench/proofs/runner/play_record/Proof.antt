@@ -1,11 +1,11 @@
--- `bench::runner::turn` meets its contract: the record is played, and its line written.
+-- `bench::runner::play_record` meets its contract: the record is played, and its line written.
 use borrow.Author.Needs.{needs}
 use Rattle.bench.proofs.RecordPlayed.{turned}
-use Rattle.bench.proofs.runner.turn.Statement.{statement}
-use Rattle.bench.proofs.runner.turn.Tie as tie
+use Rattle.bench.proofs.runner.play_record.Statement.{statement}
+use Rattle.bench.proofs.runner.play_record.Tie as tie
 
-pub turn-spec : {M : Type 1} → statement M
-turn-spec =
+pub play-record-spec : {M : Type 1} → statement M
+play-record-spec =
     tie.close
     (tie.spec
     (λ c κs. search needs)

@@ -35,14 +35,18 @@ size_t record_load(const char *path, uint8_t record[NOOSELESS_RECORD_LEN]) {
         if (errno == ENOENT) return 0;
         fail(path);
     }
-    ssize_t n = read(f, record, NOOSELESS_RECORD_LEN);
+    uint8_t whole[NOOSELESS_RECORD_LEN + 1]; /* a byte more, so that what is too long is seen to be */
+    ssize_t n = read(f, whole, sizeof whole);
     close(f);
     if (n < 0) fail(path);
+    if (n != NOOSELESS_OLD_RECORD_LEN && n != NOOSELESS_RECORD_LEN) return 0;
+    memcpy(record, whole, (size_t)n);
     return (size_t)n;
 }
 
-void record_keep(const char *path, const uint8_t record[NOOSELESS_RECORD_LEN]) {
+void record_keep(const char *path, const uint8_t record[NOOSELESS_RECORD_LEN], int log) {
     char aside[64];
+    log_line(log, clock_now(), path, NULL);
     if ((size_t)snprintf(aside, sizeof aside, "%s.new", path) >= sizeof aside) fail("record name");
     int f = open(aside, O_WRONLY | O_CREAT | O_TRUNC, 0644);
     if (f < 0) fail(aside);

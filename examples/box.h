@@ -13,12 +13,12 @@ _Noreturn void fail(const char *what);
 /* Nanoseconds of the machine's one steady clock; comparable between processes. */
 uint64_t clock_now(void);
 
-/* Reads the number record in a file: its length, 0 if there is no such file. */
+/* Reads the number record in a file: its length, 12 or 16; 0 if there is no such file, or one of another length. */
 size_t record_load(const char *path, uint8_t record[NOOSELESS_RECORD_LEN]);
 
 /* Returns once the record is in the file and would be after a power cut: written aside (with .new behind the name), synced, renamed, the
- * folder synced. */
-void record_keep(const char *path, const uint8_t record[NOOSELESS_RECORD_LEN]);
+ * folder synced. Each begins with a line in the log: it is what wears flash. */
+void record_keep(const char *path, const uint8_t record[NOOSELESS_RECORD_LEN], int log);
 
 /* A log whose lines are appended by one write each, so that a cut leaves whole lines. */
 int log_open(const char *path);

@@ -1,7 +1,7 @@
 /*
  * A console box around the console's loop: takes orders of 16 cells and a newline from standard input, one at a time, and writes its rows to
- * rows.log. Its number record is the file console.record; what it sends goes to the socket from-console, what it hears comes to the socket
- * console.
+ * rows.log. Its number record is the file console.record, each keeping of which is a line in keeps.log; what it sends goes to the socket
+ * from-console, what it hears comes to the socket console.
  */
 #include <errno.h>
 #include <fcntl.h>
@@ -13,11 +13,11 @@
 
 #define REPEAT 2000000u /* nanoseconds */
 
-static int rows, air;
+static int rows, keeps, air;
 static uint64_t next, given; /* when to repeat, when the order came */
 
 size_t console_load(uint8_t record[NOOSELESS_RECORD_LEN]) { return record_load("console.record", record); }
-void console_keep(const uint8_t record[NOOSELESS_RECORD_LEN]) { record_keep("console.record", record); }
+void console_keep(const uint8_t record[NOOSELESS_RECORD_LEN]) { record_keep("console.record", record, keeps); }
 int console_hear(uint8_t *bytes, int room) { return radio_receive(air, bytes, room); }
 void console_send(const uint8_t packet[NOOSELESS_PACKET_LEN]) { radio_send(air, "from-console", packet, NOOSELESS_PACKET_LEN); }
 int console_due(void) { return due(&next, REPEAT); }
@@ -47,6 +47,7 @@ void console_show(uint8_t told, const uint8_t order[NOOSELESS_MESSAGE_LEN]) {
 int main(void) {
     if (fcntl(STDIN_FILENO, F_SETFL, O_NONBLOCK) != 0) fail("orders");
     rows = log_open("rows.log");
+    keeps = log_open("keeps.log");
     air = radio_socket("console");
     if (nooseless_version() != NOOSELESS_VERSION) fail("an archive of another header");
     if (console_start() != 0) fail("console.record: call a person");

@@ -1,6 +1,6 @@
 /*
- * A controller box around the controller's loop: writes each dose to doses.log. Its number record is the file controller.record; what it
- * sends goes to the socket from-controller, what it hears comes to the socket controller.
+ * A controller box around the controller's loop: writes each dose to doses.log. Its number record is the file controller.record, each keeping
+ * of which is a line in keeps.log; what it sends goes to the socket from-controller, what it hears comes to the socket controller.
  *
  * Two mistakes that a rehearsal has to find. Built with FORGETFUL it keeps no record; built with LATE it keeps it, but after the next
  * packet has left.
@@ -12,7 +12,7 @@
 
 #define REPEAT 3000000u /* nanoseconds */
 
-static int doses, air;
+static int doses, keeps, air;
 static uint64_t next;
 
 size_t controller_load(uint8_t record[NOOSELESS_RECORD_LEN]) {
@@ -36,11 +36,11 @@ void controller_keep(const uint8_t record[NOOSELESS_RECORD_LEN]) {
     late = 1;
 }
 static void sent(void) {
-    if (late) record_keep("controller.record", waiting);
+    if (late) record_keep("controller.record", waiting, keeps);
     late = 0;
 }
 #else
-void controller_keep(const uint8_t record[NOOSELESS_RECORD_LEN]) { record_keep("controller.record", record); }
+void controller_keep(const uint8_t record[NOOSELESS_RECORD_LEN]) { record_keep("controller.record", record, keeps); }
 static void sent(void) {}
 #endif
 
@@ -54,6 +54,7 @@ void controller_alarm(void) { log_line(doses, clock_now(), "ALARM", NULL); }
 
 int main(void) {
     doses = log_open("doses.log");
+    keeps = log_open("keeps.log");
     air = radio_socket("controller");
     if (nooseless_version() != NOOSELESS_VERSION) fail("an archive of another header");
     if (controller_start() != 0) fail("controller.record: call a person");

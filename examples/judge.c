@@ -1,9 +1,10 @@
 /*
- * Judges a rehearsal by what the boxes wrote down: the console's rows.log, the controller's doses.log, and cuts.log.
+ * Judges a rehearsal by what the boxes wrote down: the console's rows.log, the controller's doses.log, keeps.log of both, and cuts.log.
  *
  * judge CUTS ORDERS OKS LOSTS: at least so many of each, or the rehearsal says nothing.
  * Ends with 0, with 1 if demand 3 is broken, with 2 if a log can't be read, with 3 if too little happened, with 4 if the controller met
- * a number that it had not given: its record went back, though no order has come to harm yet.
+ * a number that it had not given: its record went back, though no order has come to harm yet. With 5 if the boxes kept their records more
+ * often than blocks of 64 ask for while no power was cut.
  */
 #include <inttypes.h>
 #include <stdint.h>
@@ -17,7 +18,7 @@ struct order {
 
 struct line {
     uint64_t when;
-    char word[16];
+    char word[24];
     char cells[17];
 };
 
@@ -25,7 +26,9 @@ static struct order *orders;
 static size_t known;
 static uint64_t *backs;
 static size_t back_count;
-static unsigned long put, oks, losts, doses, cuts, twice, astray, unasked, early_ok, after_lost, no_reason, keeping, alarms;
+static unsigned long put, oks, losts, doses, cuts, twice, astray, unasked, early_ok, after_lost, no_reason, keeping, alarms, old_starts;
+static unsigned long writes, quiet_put, quiet_writes; /* of records; before the first cut */
+static uint64_t first_cut = UINT64_MAX;
 
 static _Noreturn void unreadable(const char *what) {
     fprintf(stderr, "judge: %s can't be read\n", what);
@@ -87,6 +90,7 @@ static void read_rows(void) {
             order(n)->put = l.when;
             held = last = n;
             put++;
+            quiet_put += l.when < first_cut;
             continue;
         }
         if (n == 0 || n != held) unasked++;
@@ -153,9 +157,29 @@ static void judge_answers(void) {
 static void count_cuts(void) {
     FILE *f = opened("cuts.log");
     struct line l;
-    for (; next_line(f, &l, "cuts.log"); cuts++)
+    while (next_line(f, &l, "cuts.log")) {
+        if (strcmp(l.cells, "version 1") == 0) {
+            old_starts++;
+            continue;
+        }
+        if (cuts++ == 0) first_cut = l.when;
         if (strcmp(l.cells, "keeping") == 0) keeping++;
+    }
     fclose(f);
+}
+
+static void count_writes(void) {
+    FILE *f = opened("keeps.log");
+    struct line l;
+    for (; next_line(f, &l, "keeps.log"); writes++) quiet_writes += l.when < first_cut;
+    fclose(f);
+}
+
+/* Of number records, in a time with so many cuts and orders. */
+static void print_writes(unsigned long in_cuts, unsigned long in_orders, unsigned long count) {
+    printf("in %lu cuts and %lu orders %lu writes of number records", in_cuts, in_orders, count);
+    if (in_orders > 0) printf(", %.3f an order", (double)count / (double)in_orders);
+    printf("\n");
 }
 
 int main(int argc, char **argv) {
@@ -164,6 +188,7 @@ int main(int argc, char **argv) {
         return 2;
     }
     count_cuts();
+    count_writes();
     read_rows();
     read_doses();
     judge_answers();
@@ -174,8 +199,12 @@ int main(int argc, char **argv) {
     printf("delivered or answered unasked %lu, lost with no restart of the controller since the put %lu\n", unasked,
            no_reason);
     printf("numbers that the controller had not given %lu\n", alarms);
+    print_writes(0, quiet_put, quiet_writes);
+    print_writes(cuts, put - quiet_put, writes - quiet_writes);
+    printf("records of version 1 that a start found %lu\n", old_starts);
     if (twice + astray + early_ok + after_lost + unasked + no_reason > 0) return 1;
     if (alarms > 0) return 4;
+    if (quiet_writes > 4 + quiet_put / 16) return 5;
     if (cuts < strtoul(argv[1], NULL, 10) || put < strtoul(argv[2], NULL, 10) || oks < strtoul(argv[3], NULL, 10) ||
         losts < strtoul(argv[4], NULL, 10)) {
         printf("too little happened for this to say anything\n");

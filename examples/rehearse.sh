@@ -2,7 +2,8 @@
 # A rehearsal with real power cuts: two boxes and a radio as processes, kill -9 at moments by chance, and demand 3 judged by what the boxes
 # wrote down. rehearse.sh [--broken | --late] [CUTS [SEED]]; 10,000 cuts are the long one. The seed decides every choice, not the machine's
 # timing. With --broken the controller keeps no number record, with --late it keeps it after the packet has left.
-# Ends with 0; 1 if demand 3 is broken; 2 if it can't be run; 3 if too little happened; 4 if the controller met numbers that it had not given.
+# Ends with 0; 1 if demand 3 is broken; 2 if it can't be run; 3 if too little happened; 4 if the controller met numbers that it had not given;
+# 5 if number records were written more often than their blocks ask for.
 set -eu
 broken=
 case ${1:-} in

@@ -9,9 +9,9 @@
 
 /* ---- The console's box brings along ---- */
 
-/* Gets the number record that was kept last and returns 12; 0 where none can be read. */
+/* Gets the number record that was kept last and returns its length: 16, or 12 if it is of version 1; 0 where none can be read. */
 size_t console_load(uint8_t record[NOOSELESS_RECORD_LEN]);
-/* Returns once a power cut can't take the record back. */
+/* Returns once a power cut can't take the record back. Called where the record changed, and nowhere else: it writes flash. */
 void console_keep(const uint8_t record[NOOSELESS_RECORD_LEN]);
 /* Gets the next order, where somebody gave one; then it is true. */
 int console_order(uint8_t order[NOOSELESS_MESSAGE_LEN]);

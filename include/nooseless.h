@@ -16,7 +16,7 @@
  * time, if no buffer that one of them writes is lent to another of them meanwhile.
  *
  * Machine: x86-64, called as its System V ABI has it, the 128 bytes below the stack pointer and the SSE registers included. Bytes may
- * lie anywhere; uint32_t and size_t where C lets them lie. The archive needs memmove and memset from outside, for bench and runner
+ * lie anywhere; uint16_t, uint32_t and size_t where C lets them. The archive needs memmove and memset from outside, for bench and runner
  * alone, and nothing else.
  *
  * Stack, arguments and return address included, as measured and held by the tests: nooseless_bench_step at most 2,048 bytes,
@@ -34,7 +34,7 @@ extern "C" {
 
 /* ---- Version: it changes with what an entry takes, gives or means. A box that starts can see that header and archive agree ---- */
 
-#define NOOSELESS_VERSION 1
+#define NOOSELESS_VERSION 2
 
 /* The NOOSELESS_VERSION of the archive. */
 uint32_t nooseless_version(void);
@@ -43,13 +43,19 @@ uint32_t nooseless_version(void);
 
 #define NOOSELESS_MESSAGE_LEN 16
 #define NOOSELESS_PACKET_LEN 32
-#define NOOSELESS_RECORD_LEN 12
-#define NOOSELESS_CONSOLE_STATE_LEN 30
-#define NOOSELESS_CONTROLLER_STATE_LEN 17
-#define NOOSELESS_BENCH_STATE_LEN 49
+#define NOOSELESS_OLD_RECORD_LEN 12 /* a number record of version 1 */
+#define NOOSELESS_RECORD_LEN 16     /* of version 2 */
+#define NOOSELESS_CONSOLE_STATE_LEN 36
+#define NOOSELESS_CONTROLLER_STATE_LEN 23
+#define NOOSELESS_BENCH_STATE_LEN 61
 #define NOOSELESS_TABLE_LEN 2048
 #define NOOSELESS_LIST_RECORD_LEN 21
 #define NOOSELESS_LINE_LEN 27
+
+/* ---- Blocks: how many numbers an end reserves at a time ---- */
+
+#define NOOSELESS_BLOCK 64 /* a fresh end's, and that of a record of version 1 */
+#define NOOSELESS_BLOCK_MAX 1024
 
 /* ---- Letters: what a step is asked to do ----
  *
@@ -100,11 +106,12 @@ enum nooseless_refusal {
     NOOSELESS_NO_ROOM = 9,        /* copies to be added exceed the free places of the channel */
     NOOSELESS_MANY_COPIES = 10,   /* copies above 3 */
     NOOSELESS_NO_CELL = 11,       /* P with a byte outside 0x20 to 0x7E - tell who wrote the order */
-    NOOSELESS_WRONG_LENGTH = 12,  /* packet, record or reply buffer of a wrong length - a packet that is 12 to 15 is junk: drop it. A
-                                     record: see "At power-on". A reply buffer: a mistake in the box's program */
+    NOOSELESS_WRONG_LENGTH = 12,  /* packet or reply buffer of a wrong length; a record of neither 12 nor 16 bytes - a packet that is 12
+                                     to 15 is junk: drop it. A record: see "At power-on". A reply buffer: a mistake in the box's program */
     NOOSELESS_WRONG_MARK = 13,    /* mark wrong - likewise */
-    NOOSELESS_WRONG_VERSION = 14, /* version not 1 - likewise */
-    NOOSELESS_WRONG_FIELD = 15    /* any other field outside its table; a packet that goes the other way - likewise */
+    NOOSELESS_WRONG_VERSION = 14, /* a packet's version not 1; a record's not 1 in 12 bytes, not 2 in 16 - likewise */
+    NOOSELESS_WRONG_FIELD = 15    /* any other field outside its table, a block outside 1 to 1,024 too; a packet that goes the other
+                                     way - likewise */
 };
 
 /* ---- Packets and number records ---- */
@@ -130,22 +137,43 @@ uint8_t nooseless_read_packet(const uint8_t *packet, size_t packet_len, uint8_t 
 uint8_t nooseless_write_packet(uint8_t *out, size_t out_len, uint8_t kind, uint32_t first, uint32_t second,
                                const uint8_t message[NOOSELESS_MESSAGE_LEN]);
 
-/* Reads a number record of 12 bytes: whose it is, and its last used. Refusals: WRONG_LENGTH, WRONG_MARK, WRONG_VERSION,
- * WRONG_FIELD. */
-uint8_t nooseless_read_record(const uint8_t *record, size_t record_len, uint8_t *end, uint32_t *last_used);
+/* A number record has one of two versions. Version 2, 16 bytes: reserved, the largest number that the end may use before it keeps a
+ * record again, and the block by which that then grows. Version 1, 12 bytes, as boxes kept it before there were blocks: last used. */
 
-/* Writes a number record to 12 bytes. Refusals: WRONG_LENGTH, WRONG_FIELD. */
-uint8_t nooseless_write_record(uint8_t *out, size_t out_len, uint8_t end, uint32_t last_used);
+/* Reads a number record of either version: whose it is, its number (reserved, or last used) and its block, 0 for version 1. Refusals:
+ * WRONG_LENGTH, WRONG_MARK, WRONG_VERSION, WRONG_FIELD. */
+uint8_t nooseless_read_record(const uint8_t *record, size_t record_len, uint8_t *end, uint32_t *number, uint16_t *block);
+
+/* Writes a number record, to 16 bytes; with block 0 one of version 1, to 12. Refusals: WRONG_LENGTH (also for the other version's),
+ * WRONG_FIELD. */
+uint8_t nooseless_write_record(uint8_t *out, size_t out_len, uint8_t end, uint32_t number, uint16_t block);
+
+/* Carries a number record to the version that `to_len` names, 12 or 16 bytes; the number stays. From version 1 the block becomes 64; to
+ * version 1 it is lost. A record that has that version stays the same bytes. Refusals: WRONG_LENGTH, for either length, WRONG_MARK,
+ * WRONG_VERSION, WRONG_FIELD. */
+uint8_t nooseless_carry_record(const uint8_t *from, size_t from_len, uint8_t *to, size_t to_len);
 
 /* ---- An end run alone ----
  *
  * The caller keeps the end's state in a buffer of its own, and need not look into it. Its bytes are never trusted: any other
- * length, a flag that is neither 0 nor 1, or fields that contradict each other are NOOSELESS_ILL_FORMED.
+ * length, a flag that is neither 0 nor 1, a block outside 1 to 1,024, last used above reserved, or fields that contradict each other
+ * are NOOSELESS_ILL_FORMED.
  *
- *   console, 30 bytes:    0-3 last used J; 4-7 j; 8-11 last; 12 held; 13 up; 14-29 message (16 spaces where none is held)
- *   controller, 17 bytes: 0-3 last used I; 4-7 j; 8-11 i; 12-15 last; 16 up
+ *   console, 36 bytes:    0-3 last used J; 4-7 reserved; 8-9 block; 10-13 j; 14-17 last; 18 held; 19 up;
+ *                         20-35 message (16 spaces where none is held)
+ *   controller, 23 bytes: 0-3 last used I; 4-7 reserved; 8-9 block; 10-13 j; 14-17 i; 18-21 last; 22 up
  *
- * Numbers are big-endian, 0 means none. Of all this only the last used has to survive a power cut: it is the end's number record.
+ * Numbers are big-endian, 0 means none. Of all this only reserved and block have to survive a power cut: they are the end's number
+ * record.
+ *
+ * Blocks: the next number is last used plus one; at 4,294,967,295 they are spent. Where one is needed and last used is reserved,
+ * reserved first grows by the block, at most to 4,294,967,295; that alone changes the record, and the step tells NOOSELESS_KEEP. The
+ * other numbers up to reserved cost no write of flash: in 640 orders without a restart a console with block 64 writes 10 times; it
+ * wrote 640 times before there were blocks. Coming back (V, Y) sets last used to reserved, since the record doesn't say how much of
+ * the block was used. So a restart gives up what was left of it, at most 63 numbers of 64, and the first number after it tells
+ * NOOSELESS_KEEP. With up to 64 orders after each restart the numbers last for some 67 million restarts (4,294,967,295 / 64), one a
+ * minute for 127 years. A larger block is fewer writes, and more numbers given up at a restart. Who makes the box chooses it; later a
+ * person may, while the box is off: nooseless_write_record with the number of the kept record, and no other, and the new block.
  *
  * THE RULE that a box has to keep, console and controller alike. After a step that is no refusal:
  *   1. where it told NOOSELESS_KEEP, the end's number record (.._record) is kept, so that a power cut can't take it back;
@@ -155,17 +183,23 @@ uint8_t nooseless_write_record(uint8_t *out, size_t out_len, uint8_t end, uint32
  * Power may fail at any moment; what follows in this order is then not done. If it fails before 1 is done, nothing of that step was
  * shown or sent. If 4 came before 3, in a timer's interrupt, say, an OK might leave before its order is carried out.
  *
- * At power-on the box loads the record that it kept last: .._downed, then V or Y. With none that can be read (empty, or refused by
- * .._downed) it must never start again from 0: a number that is given twice can be a dose that is given twice. It stops and calls a
- * person; or it starts with .._fresh from the largest number that it may have used. Only a box that has never run starts from 0, and
- * that its record is missing does not say so: better, who makes the box keeps the first record in it (nooseless_write_record with 0),
- * and the box itself never makes one. A box that takes another's place on the link takes over its record.
+ * At power-on the box loads the record that it kept last, of 12 or 16 bytes: .._downed, then V or Y. With none that can be read (empty,
+ * or refused by .._downed) it must never start again from 0: a number that is given twice can be a dose that is given twice. It stops
+ * and calls a person; or it starts with .._fresh from the largest number that it may have used, which is the reserved that it kept
+ * last. Only a box that has never run starts from 0, and that its record is missing does not say so: better, who makes the box keeps
+ * the first record in it (nooseless_write_record with 0 and a block), and the box itself never makes one. A box that takes another's
+ * place on the link takes over its record.
+ *
+ * A box in the field that gets these entries finds a record of 12 bytes, and .._downed takes it: reserved is its last used, the block
+ * 64. It stays in flash until the first number is taken, whose record, of 16 bytes, is kept as every other; until then a box that loses
+ * power finds 12 bytes again. A box that goes back to entries of version 1, which refuse 16 bytes, first has its record carried back to
+ * 12 (nooseless_carry_record): last used is then reserved, so that no number comes twice.
  *
  * A record that was half written may read as a valid one with a number that never was: it holds no check sum. So it is never written
  * over in place: it is written aside, synced, and put in its place by one act that is done or not done (rename, and the folder synced);
  * or it is kept twice, each with a check sum of the box's own, in two places of which a cut spoils only the one being written, the
- * second after the first; at power-on the larger of those that are whole is taken, and the other written anew from it before the box
- * starts.
+ * second after the first; at power-on that of the larger number is taken of those that are whole, whatever its version (of equal
+ * numbers either will do), and the other written anew from it before the box starts.
  *
  * What this gives is proved of these very entries (crates/demand3, the theorem boxes-for-c-right): two boxes that keep the rule, from
  * any two records on, over any radio. Whatever either sent may come never, once, often, late, in any order, through any cuts and
@@ -179,16 +213,18 @@ uint8_t nooseless_write_record(uint8_t *out, size_t out_len, uint8_t end, uint32
  * so the row leaves that to a person.
  */
 
-/* Up and idle, with any last used; 0 only for a box that never ran. Refusals: ILL_FORMED, for a length alone. */
+/* Up and idle, with any last used, reserved the same, block 64; 0 only for a box that never ran. Refusals: ILL_FORMED, for a length
+ * alone. */
 uint8_t nooseless_console_fresh(uint8_t *state, size_t state_len, uint32_t last_used);
 uint8_t nooseless_controller_fresh(uint8_t *state, size_t state_len, uint32_t last_used);
 
-/* After power loss: down, with the last used of the end's own number record. Refusals: ILL_FORMED, for a length alone, WRONG_LENGTH,
- * WRONG_MARK, WRONG_VERSION, WRONG_FIELD (also for a record of the other end). */
+/* After power loss: down and idle, last used and reserved both the number of the end's own number record, of either version; its block,
+ * 64 from version 1. Refusals: ILL_FORMED, for a length alone, WRONG_LENGTH, WRONG_MARK, WRONG_VERSION, WRONG_FIELD (also for a record
+ * of the other end). */
 uint8_t nooseless_console_downed(uint8_t *state, size_t state_len, const uint8_t *record, size_t record_len);
 uint8_t nooseless_controller_downed(uint8_t *state, size_t state_len, const uint8_t *record, size_t record_len);
 
-/* Writes the state's number record to 12 bytes. Refusals: ILL_FORMED, WRONG_LENGTH. */
+/* Writes the state's number record, of version 2, to 16 bytes. Refusals: ILL_FORMED, WRONG_LENGTH. */
 uint8_t nooseless_console_record(const uint8_t *state, size_t state_len, uint8_t *out, size_t out_len);
 uint8_t nooseless_controller_record(const uint8_t *state, size_t state_len, uint8_t *out, size_t out_len);
 
@@ -199,7 +235,7 @@ enum nooseless_told {
     NOOSELESS_ANSWER_OK = 65,  /* the console: the order that was held was delivered */
     NOOSELESS_ANSWER_LOST = 66 /* the console: the controller went down and came back; the order that was held won't be delivered later */
 };
-#define NOOSELESS_KEEP 0x20 /* the end's number record changed */
+#define NOOSELESS_KEEP 0x20 /* the end's number record changed: reserved grew */
 #define NOOSELESS_SENT 0x80 /* a packet was written to the reply buffer */
 
 static inline int nooseless_is_refusal(uint8_t told) { return 1 <= told && told <= 31; }
@@ -228,17 +264,17 @@ uint8_t nooseless_controller_step(uint8_t *state, size_t state_len, uint8_t lett
 
 /* ---- A bench: both ends and both channels ----
  *
- * The caller keeps a state of 49 bytes and two tables of 2,048 bytes: `out` holds the packets on their way to the controller, `back`
+ * The caller keeps a state of 61 bytes and two tables of 2,048 bytes: `out` holds the packets on their way to the controller, `back`
  * those on their way to the console. Packets lie one after another, 32 bytes each, from the start of a table; all bytes after them
  * are 0.
  *
- *   state, 49 bytes: 0-29 the console; 30-46 the controller; 47 packets on their way to the controller; 48 to the console
+ *   state, 61 bytes: 0-35 the console; 36-58 the controller; 59 packets on their way to the controller; 60 to the console
  *
  * Bytes are never trusted: what makes an end's state ill formed does so here, and so does a table of another length, a count above
  * 64, below the count bytes that are no packet of that direction, above it a byte that is not 0.
  */
 
-/* Both ends up and idle with these last used, both tables cleared. Refusals: ILL_FORMED, for a length alone. */
+/* Both ends fresh with these last used, both tables cleared. Refusals: ILL_FORMED, for a length alone. */
 uint8_t nooseless_bench_fresh(uint8_t *state, size_t state_len, uint8_t *out, size_t out_len, uint8_t *back, size_t back_len,
                               uint32_t console_last_used, uint32_t controller_last_used);
 

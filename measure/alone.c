@@ -1,6 +1,6 @@
 /*
- * Calls R of a controller or S of a console, proved or of the peer, N times with one state and packet of a case: alone WHO CASE N. The peer's
- * answers and bytes are compared with the proved ones first. The instructions of N calls are counted from outside.
+ * Calls R of a controller, S or P of a console, proved or of the peer, N times with one state and packet of a case: alone WHO CASE N. The
+ * peer's answers and bytes are compared with the proved ones first. The instructions of N calls are counted from outside.
  */
 #include <stdio.h>
 #include <stdlib.h>
@@ -24,11 +24,13 @@ static const struct {
     uint8_t kind;
     uint32_t first, second;
 } cases[] = {
-    {"R needI, idle", 'R', 'i', NOOSELESS_KIND_NEEDI, 1, 0},      {"R data, delivered", 'R', 'a', NOOSELESS_KIND_DATA, 1, 0},
+    {"R needI, within the block", 'R', 'u', NOOSELESS_KIND_NEEDI, 1, 0}, {"R needI, reserved grows", 'R', 'i', NOOSELESS_KIND_NEEDI, 1, 0},
+    {"R data, delivered", 'R', 'a', NOOSELESS_KIND_DATA, 1, 0},
     {"R data, a repeat", 'R', 'k', NOOSELESS_KIND_DATA, 1, 0},    {"R data, lost", 'R', 'u', NOOSELESS_KIND_DATA, 1, 0},
     {"R done, acknowledged", 'R', 'k', NOOSELESS_KIND_DONE, 1, 0}, {"S offer, taken", 'S', 'n', NOOSELESS_KIND_OFFER, 1, 1},
     {"S offer, done", 'S', 'i', NOOSELESS_KIND_OFFER, 1, 1},      {"S OK", 'S', 's', NOOSELESS_KIND_OK, 1, 0},
-    {"S lost", 'S', 's', NOOSELESS_KIND_LOST, 1, 0},
+    {"S lost", 'S', 's', NOOSELESS_KIND_LOST, 1, 0},              {"P, within the block", 'P', 'u', NOOSELESS_KIND_OK, 1, 0},
+    {"P, reserved grows", 'P', 'i', NOOSELESS_KIND_OK, 1, 0},
 };
 
 static uint8_t console(struct box *b, char letter, uint8_t kind, uint32_t first, uint32_t second) {
@@ -43,14 +45,15 @@ static uint8_t controller(struct box *b, char letter, uint8_t kind, uint32_t fir
                                      sizeof b->reply, b->delivered);
 }
 
-/* i idle, n needI, s send; a accept, k ack, u used and idle again */
+/* i idle, n needI, s send; a accept, k ack; u a number of the block used, and idle again */
 static void prepare(struct box *b, int which) {
     memset(b, 0, sizeof *b);
     nooseless_console_fresh(b->console, sizeof b->console, 0);
     nooseless_controller_fresh(b->controller, sizeof b->controller, 0);
     char p = cases[which].prepared;
-    if (p == 'n' || p == 's') console(b, 'P', NOOSELESS_KIND_OK, 1, 0);
-    if (p == 's') console(b, 'S', NOOSELESS_KIND_OFFER, 1, 1);
+    if (p == 'n' || p == 's' || p == 'u') console(b, 'P', NOOSELESS_KIND_OK, 1, 0);
+    if (p == 's' || p == 'u') console(b, 'S', NOOSELESS_KIND_OFFER, 1, 1);
+    if (p == 'u') console(b, 'S', NOOSELESS_KIND_OK, 1, 0);
     if (p == 'a' || p == 'k' || p == 'u') controller(b, 'R', NOOSELESS_KIND_NEEDI, 1);
     if (p == 'k') controller(b, 'R', NOOSELESS_KIND_DATA, 1);
     if (p == 'u') controller(b, 'R', NOOSELESS_KIND_DONE, 1);
@@ -72,8 +75,10 @@ static uint8_t call(struct box *b, const char *who, char letter) {
         return nooseless_controller_step(b->controller, sizeof b->controller, 'R', b->packet, sizeof b->packet, b->reply, sizeof b->reply, b->delivered);
     }
     if (*who == 'n') return nobody_r(b->console, sizeof b->console, b->packet, sizeof b->packet, b->reply, sizeof b->reply, NULL);
+    if (*who == 'c' && letter == 'P') return peer_p(b->console, sizeof b->console, cells);
     if (*who == 'c') return peer_s(b->console, sizeof b->console, b->packet, sizeof b->packet, b->reply, sizeof b->reply);
-    return nooseless_console_step(b->console, sizeof b->console, 'S', cells, b->packet, sizeof b->packet, b->reply, sizeof b->reply);
+    return nooseless_console_step(b->console, sizeof b->console, (uint8_t)letter, cells, b->packet, sizeof b->packet, b->reply,
+                                  sizeof b->reply);
 }
 
 int main(int argc, char **argv) {

@@ -7,7 +7,7 @@
 #include <string.h>
 
 #include "nooseless.h"
-#include "numbers.h"
+#include "packets.h"
 #include "peer.h"
 
 static const uint8_t blank[NOOSELESS_MESSAGE_LEN];
@@ -17,16 +17,19 @@ struct bench {
     uint8_t state[NOOSELESS_BENCH_STATE_LEN], out[NOOSELESS_TABLE_LEN], back[NOOSELESS_TABLE_LEN], delivered[NOOSELESS_MESSAGE_LEN];
 };
 
-/* i idle, n needI, s send; i idle, a accept, k ack. The packet lies at place 0 of the channel that the letter takes from. */
+/* i idle, n needI, s send; i idle, a accept, k ack; u idle, a number of the block used. The packet lies at place 0 of the channel that the
+ * letter takes from. */
 static const struct {
     const char *name;
     char letter, console, controller;
     size_t place, copies;
     uint8_t kind, told;
 } actions[] = {
-    {"P", 'P', 'i', 'i', 0, 0, 0, NOOSELESS_NOTHING},
+    {"P, within the block", 'P', 'u', 'i', 0, 0, 0, NOOSELESS_NOTHING},
+    {"P, reserved grows", 'P', 'i', 'i', 0, 0, 0, NOOSELESS_NOTHING},
     {"Q, one copy", 'Q', 'n', 'i', 0, 1, 0, NOOSELESS_NOTHING},
-    {"R needI", 'R', 'n', 'i', 0, 0, NOOSELESS_KIND_NEEDI, NOOSELESS_NOTHING},
+    {"R needI, within the block", 'R', 'n', 'u', 0, 0, NOOSELESS_KIND_NEEDI, NOOSELESS_NOTHING},
+    {"R needI, reserved grows", 'R', 'n', 'i', 0, 0, NOOSELESS_KIND_NEEDI, NOOSELESS_NOTHING},
     {"R data, delivered", 'R', 's', 'a', 0, 1, NOOSELESS_KIND_DATA, NOOSELESS_DELIVERED},
     {"S offer, taken", 'S', 'n', 'a', 0, 0, NOOSELESS_KIND_OFFER, NOOSELESS_NOTHING},
     {"S OK", 'S', 's', 'k', 0, 1, NOOSELESS_KIND_OK, NOOSELESS_ANSWER_OK},
@@ -46,20 +49,26 @@ static const struct {
 
 enum { ACTIONS = sizeof actions / sizeof *actions, CASES = ACTIONS * (sizeof fillings / sizeof *fillings) };
 
+/* A number used, and the rest of its block reserved. */
+static void use(uint8_t *numbers) {
+    put_number(numbers + USED, 1);
+    put_number(numbers + RESERVED, NOOSELESS_BLOCK);
+}
+
 static void set_ends(uint8_t *s, char console, char controller) {
     uint8_t *d = s + NOOSELESS_CONSOLE_STATE_LEN;
-    if (console != 'i') {
-        put_number(s, 1);
-        put_number(s + (console == 'n' ? 4 : 8), 1);
-        s[12] = 1;
-        memcpy(s + 14, cells, NOOSELESS_MESSAGE_LEN);
+    if (console != 'i') use(s);
+    if (controller != 'i') use(d);
+    if (console == 'n' || console == 's') {
+        put_number(s + (console == 'n' ? J : CONSOLE_LAST), 1);
+        s[CONSOLE_HELD] = 1;
+        memcpy(s + CONSOLE_MESSAGE, cells, NOOSELESS_MESSAGE_LEN);
     }
-    if (controller != 'i') put_number(d, 1);
     if (controller == 'a') {
-        put_number(d + 4, 1);
-        put_number(d + 8, 1);
+        put_number(d + J, 1);
+        put_number(d + CONTROLLER_I, 1);
     } else if (controller == 'k') {
-        put_number(d + 12, 1);
+        put_number(d + CONTROLLER_LAST, 1);
     }
 }
 
@@ -84,8 +93,8 @@ static void prepare(struct bench *b, int action, size_t packets) {
     set_ends(b->state, actions[action].console, actions[action].controller);
     fill(b->out, out, to_controller, from_back ? 0 : actions[action].kind);
     fill(b->back, back, to_console, from_back ? actions[action].kind : 0);
-    b->state[47] = (uint8_t)out;
-    b->state[48] = (uint8_t)back;
+    b->state[59] = (uint8_t)out;
+    b->state[60] = (uint8_t)back;
     if (actions[action].told == NOOSELESS_ILL_FORMED) b->back[NOOSELESS_TABLE_LEN - 1] = 1;
 }
 

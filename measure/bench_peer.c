@@ -6,7 +6,7 @@
 #include "packets.h"
 #include "peer.h"
 
-enum { PLACES = 64, CONTROLLER = NOOSELESS_CONSOLE_STATE_LEN, SENT = 47, RETURNED = 48 };
+enum { PLACES = 64, CONTROLLER = NOOSELESS_CONSOLE_STATE_LEN, SENT = 59, RETURNED = 60 };
 
 /* A table, and where its count is. */
 struct channel {
@@ -62,30 +62,18 @@ static uint8_t sends(struct channel c, size_t copies, int up, uint8_t kind, uint
     return NOOSELESS_NOTHING;
 }
 
-static uint8_t puts_order(uint8_t *s, const uint8_t *message) {
-    uint32_t used = number(s);
-    if (!s[13]) return NOOSELESS_IS_DOWN;
-    if (s[12]) return NOOSELESS_OTHER_MODE;
-    if (used == UINT32_MAX) return NOOSELESS_SPENT;
-    put_number(s, used + 1);
-    put_number(s + 4, used + 1);
-    s[12] = 1;
-    memcpy(s + 14, message, NOOSELESS_MESSAGE_LEN);
-    return NOOSELESS_NOTHING;
-}
-
 static uint8_t console_takes(uint8_t *s, struct channel from, struct channel to, size_t place, size_t copies) {
-    if (!s[13]) return NOOSELESS_IS_DOWN;
+    if (!s[CONSOLE_UP]) return NOOSELESS_IS_DOWN;
     if (place >= *from.count) return NOOSELESS_NO_PLACE;
     const uint8_t *p = from.table + place * NOOSELESS_PACKET_LEN;
     uint8_t kind = p[5], report = NOOSELESS_NOTHING;
-    uint32_t last = number(s + 8), first = number(p + 8), i = kind == NOOSELESS_KIND_OFFER ? number(p + 12) : first;
-    int taken = kind == NOOSELESS_KIND_OFFER && first == number(s + 4);
+    uint32_t last = number(s + CONSOLE_LAST), first = number(p + 8), i = kind == NOOSELESS_KIND_OFFER ? number(p + 12) : first;
+    int taken = kind == NOOSELESS_KIND_OFFER && first == number(s + J);
     int reply = kind == NOOSELESS_KIND_OK || (kind == NOOSELESS_KIND_OFFER && !taken && i != last);
     if (reply && full(to, copies)) return NOOSELESS_NO_ROOM;
     if (taken) {
-        memset(s + 4, 0, 4);
-        put_number(s + 8, i);
+        memset(s + J, 0, 4);
+        put_number(s + CONSOLE_LAST, i);
     } else if (kind != NOOSELESS_KIND_OFFER && i == last) {
         rest(s);
         report = kind == NOOSELESS_KIND_OK ? NOOSELESS_ANSWER_OK : NOOSELESS_ANSWER_LOST;
@@ -96,31 +84,30 @@ static uint8_t console_takes(uint8_t *s, struct channel from, struct channel to,
 }
 
 static uint8_t controller_takes(uint8_t *s, struct channel from, struct channel to, size_t place, size_t copies, uint8_t *delivered) {
-    if (!s[16]) return NOOSELESS_IS_DOWN;
+    if (!s[CONTROLLER_UP]) return NOOSELESS_IS_DOWN;
     if (place >= *from.count) return NOOSELESS_NO_PLACE;
     const uint8_t *p = from.table + place * NOOSELESS_PACKET_LEN;
     uint8_t kind = p[5], report = NOOSELESS_NOTHING;
-    uint32_t used = number(s), i = number(s + 8), last = number(s + 12), n = number(p + 8);
+    uint32_t used = number(s + USED), i = number(s + CONTROLLER_I), last = number(s + CONTROLLER_LAST), n = number(p + 8);
     if (kind != NOOSELESS_KIND_NEEDI && n > used) return NOOSELESS_NEVER_GIVEN;
     int reply = kind == NOOSELESS_KIND_DATA && n != last;
     if (reply && full(to, copies)) return NOOSELESS_NO_ROOM;
     uint8_t answer = NOOSELESS_KIND_LOST;
     if (kind == NOOSELESS_KIND_NEEDI) {
         if (i == 0 && last == 0 && used != UINT32_MAX) {
-            put_number(s, used + 1);
-            put_number(s + 4, n);
-            put_number(s + 8, used + 1);
+            put_number(s + CONTROLLER_I, take_number(s));
+            put_number(s + J, n);
         }
     } else if (n == i) {
-        memset(s + 4, 0, 8);
+        memset(s + J, 0, 8);
         if (kind == NOOSELESS_KIND_DATA) {
-            put_number(s + 12, n);
+            put_number(s + CONTROLLER_LAST, n);
             memcpy(delivered, p + 16, NOOSELESS_MESSAGE_LEN);
             answer = NOOSELESS_KIND_OK;
             report = NOOSELESS_DELIVERED;
         }
     } else if (n == last && kind == NOOSELESS_KIND_DONE) {
-        memset(s + 12, 0, 4);
+        memset(s + CONTROLLER_LAST, 0, 4);
     }
     take_out(from, place);
     if (reply) send(to, copies, answer, n, 0, 0);
@@ -136,7 +123,8 @@ static uint8_t loses(struct channel c, size_t place) {
 static uint8_t comes_back(uint8_t *s, uint8_t *up) {
     if (*up) return NOOSELESS_IS_UP;
     *up = 1;
-    memset(s + 4, 0, 8);
+    memcpy(s + USED, s + RESERVED, 4);
+    memset(s + J, 0, 8);
     return NOOSELESS_NOTHING;
 }
 
@@ -154,22 +142,22 @@ uint8_t peer_bench_step(uint8_t *s, size_t n, uint8_t *out, size_t out_len, uint
     struct channel forth = {out, s + SENT}, home = {back, s + RETURNED};
     uint8_t told;
     switch (letter) {
-    case 'P': return puts_order(s, message);
-    case 'Q': return sends(forth, copies, s[13], NOOSELESS_KIND_NEEDI, number(s + 4), 0, 0);
-    case 'D': return sends(forth, copies, s[13], NOOSELESS_KIND_DATA, number(s + 8), 0, s + 14);
+    case 'P': return hold(s, message);
+    case 'Q': return sends(forth, copies, s[CONSOLE_UP], NOOSELESS_KIND_NEEDI, number(s + J), 0, 0);
+    case 'D': return sends(forth, copies, s[CONSOLE_UP], NOOSELESS_KIND_DATA, number(s + CONSOLE_LAST), 0, s + CONSOLE_MESSAGE);
     case 'S': return console_takes(s, home, forth, place, copies);
-    case 'C': s[13] = 0; return NOOSELESS_NOTHING;
+    case 'C': s[CONSOLE_UP] = 0; return NOOSELESS_NOTHING;
     case 'V':
-        told = comes_back(s, s + 13);
+        told = comes_back(s, s + CONSOLE_UP);
         if (!told) rest(s);
         return told;
-    case 'O': return sends(home, copies, d[16], NOOSELESS_KIND_OFFER, number(d + 4), number(d + 8), 0);
-    case 'K': return sends(home, copies, d[16], NOOSELESS_KIND_OK, number(d + 12), 0, 0);
+    case 'O': return sends(home, copies, d[CONTROLLER_UP], NOOSELESS_KIND_OFFER, number(d + J), number(d + CONTROLLER_I), 0);
+    case 'K': return sends(home, copies, d[CONTROLLER_UP], NOOSELESS_KIND_OK, number(d + CONTROLLER_LAST), 0, 0);
     case 'R': return controller_takes(d, forth, home, place, copies, delivered);
-    case 'X': d[16] = 0; return NOOSELESS_NOTHING;
+    case 'X': d[CONTROLLER_UP] = 0; return NOOSELESS_NOTHING;
     case 'Y':
-        told = comes_back(d, d + 16);
-        if (!told) memset(d + 12, 0, 4);
+        told = comes_back(d, d + CONTROLLER_UP);
+        if (!told) memset(d + CONTROLLER_LAST, 0, 4);
         return told;
     case 'L': return loses(forth, place);
     default: return loses(home, place);

@@ -7,7 +7,7 @@
 
 #include "numbers.h"
 
-enum { RECORD = 21, LINE = 27, MOST = 9999, PLACES = 64, PACKET = 32, CELLS = 16 };
+enum { RECORD = 21, LINE = 27, MOST = 9999, PLACES = 64, PACKET = 32, CELLS = 16, BLOCK = 64 };
 enum { NEEDI = 1, OFFER, DATA, OK, LOST, DONE };
 enum { IDLE, NEED_I, SEND, ACCEPT = NEED_I, ACK = SEND };
 enum { NOTHING = 0, DELIVERED = 16, ANSWERED_OK, ANSWERED_LOST };
@@ -17,18 +17,29 @@ struct channel {
     uint8_t place[PLACES][PACKET];
 };
 
+struct numbers {
+    uint32_t used, reserved;
+};
+
 static struct {
-    uint32_t used, number;
+    struct numbers numbers;
+    uint32_t number;
     uint8_t mode, down;
     uint8_t message[CELLS];
 } console;
 
 static struct {
-    uint32_t used, j, number;
+    struct numbers numbers;
+    uint32_t j, number;
     uint8_t mode, down;
 } controller;
 
 static struct channel out, back;
+
+static inline uint32_t take_number(struct numbers *n) {
+    if (n->used == n->reserved) n->reserved = grown(n->reserved, BLOCK);
+    return ++n->used;
+}
 
 static void send(struct channel *c, unsigned copies, uint8_t kind, uint32_t first, uint32_t second, const uint8_t *message) {
     static const uint8_t head[8] = {'H', 'S', 'L', 0, 1, 0, 0, 0};
@@ -95,15 +106,15 @@ static int controller_takes(unsigned place, unsigned copies, const uint8_t **del
     uint8_t kind = p[5];
     uint32_t n = number(p + 8);
     if (kind == NEEDI) {
-        if (controller.mode == IDLE && controller.used != UINT32_MAX) {
+        if (controller.mode == IDLE && controller.numbers.used != UINT32_MAX) {
             controller.mode = ACCEPT;
             controller.j = n;
-            controller.number = ++controller.used;
+            controller.number = take_number(&controller.numbers);
         }
         take_out(&out, place);
         return NOTHING;
     }
-    if (n > controller.used) return 7;
+    if (n > controller.numbers.used) return 7;
     if (kind == DONE) {
         if (controller.mode != IDLE && n == controller.number) controller.mode = IDLE;
         take_out(&out, place);
@@ -146,9 +157,9 @@ static int step(uint8_t letter, unsigned place, unsigned copies, const uint8_t *
     case 'P':
         if (console.down) return 4;
         if (console.mode != IDLE) return 6;
-        if (console.used == UINT32_MAX) return 8;
+        if (console.numbers.used == UINT32_MAX) return 8;
         console.mode = NEED_I;
-        console.number = ++console.used;
+        console.number = take_number(&console.numbers);
         memcpy(console.message, message, CELLS);
         return NOTHING;
     case 'Q': return sends(&out, copies, console.down, console.mode == NEED_I, NEEDI, console.number, 0, 0);
@@ -159,6 +170,7 @@ static int step(uint8_t letter, unsigned place, unsigned copies, const uint8_t *
         if (!console.down) return 5;
         console.down = 0;
         console.mode = IDLE;
+        console.numbers.used = console.numbers.reserved;
         return NOTHING;
     case 'O': return sends(&back, copies, controller.down, controller.mode == ACCEPT, OFFER, controller.j, controller.number, 0);
     case 'K': return sends(&back, copies, controller.down, controller.mode == ACK, OK, controller.number, 0, 0);
@@ -168,6 +180,7 @@ static int step(uint8_t letter, unsigned place, unsigned copies, const uint8_t *
         if (!controller.down) return 5;
         controller.down = 0;
         controller.mode = IDLE;
+        controller.numbers.used = controller.numbers.reserved;
         return NOTHING;
     case 'L': return loses(&out, place);
     default: return loses(&back, place);

@@ -1,4 +1,4 @@
-/* Numbers of packets, big-endian, for the peers. */
+/* Numbers, big-endian, for the peers, and how far they are reserved. */
 #ifndef NUMBERS_H
 #define NUMBERS_H
 
@@ -13,6 +13,12 @@ static inline void put_number(uint8_t *p, uint32_t n) {
     p[1] = (uint8_t)(n >> 16);
     p[2] = (uint8_t)(n >> 8);
     p[3] = (uint8_t)n;
+}
+
+/* Reserved by a block more, at most to the largest number. */
+static inline uint32_t grown(uint32_t reserved, uint32_t block) {
+    uint32_t left = UINT32_MAX - reserved;
+    return reserved + (block < left ? block : left);
 }
 
 #endif

@@ -50,21 +50,56 @@ static inline void write_packet(uint8_t *p, uint8_t kind, uint32_t first, uint32
 
 /* ---- states of the ends; what is no state is not well formed ---- */
 
+enum { USED = 0, RESERVED = 4, BLOCK = 8, J = 10 };
+enum { CONSOLE_LAST = 14, CONSOLE_HELD = 18, CONSOLE_UP = 19, CONSOLE_MESSAGE = 20 };
+enum { CONTROLLER_I = 14, CONTROLLER_LAST = 18, CONTROLLER_UP = 22 };
+
+static inline uint32_t block_of(const uint8_t *s) { return (uint32_t)s[BLOCK] << 8 | s[BLOCK + 1]; }
+
+static inline int numbers_well(const uint8_t *s) {
+    uint32_t block = block_of(s);
+    return block >= 1 && block <= NOOSELESS_BLOCK_MAX && number(s + USED) <= number(s + RESERVED);
+}
+
 static inline int console_well(const uint8_t *s) {
-    uint32_t used = number(s), j = number(s + 4), last = number(s + 8);
-    if (s[12] > 1 || s[13] > 1) return 0;
-    return s[12] ? (j == 0) != (last == 0) && j <= used && all_cells(s + 14) : j == 0 && last == 0 && all_are(s + 14, 0x20);
+    uint32_t j = number(s + J), last = number(s + CONSOLE_LAST);
+    if (s[CONSOLE_HELD] > 1 || s[CONSOLE_UP] > 1 || !numbers_well(s)) return 0;
+    if (!s[CONSOLE_HELD]) return j == 0 && last == 0 && all_are(s + CONSOLE_MESSAGE, 0x20);
+    return (j == 0) != (last == 0) && j <= number(s + USED) && all_cells(s + CONSOLE_MESSAGE);
 }
 
 static inline int controller_well(const uint8_t *s) {
-    uint32_t used = number(s), j = number(s + 4), i = number(s + 8), last = number(s + 12);
-    return s[16] <= 1 && (i == 0) == (j == 0) && !(i != 0 && last != 0) && i <= used && last <= used;
+    uint32_t used = number(s + USED), j = number(s + J), i = number(s + CONTROLLER_I), last = number(s + CONTROLLER_LAST);
+    if (s[CONTROLLER_UP] > 1 || !numbers_well(s)) return 0;
+    return (i == 0) == (j == 0) && !(i != 0 && last != 0) && i <= used && last <= used;
+}
+
+/* Whether the next number makes reserved grow. */
+static inline int used_up(const uint8_t *s) { return number(s + USED) == number(s + RESERVED); }
+
+/* Of numbers that are not spent. */
+static inline uint32_t take_number(uint8_t *s) {
+    uint32_t next = number(s + USED) + 1;
+    if (used_up(s)) put_number(s + RESERVED, grown(number(s + RESERVED), block_of(s)));
+    put_number(s + USED, next);
+    return next;
+}
+
+/* Puts the order of a console; 4, 6, 8. */
+static inline uint8_t hold(uint8_t *s, const uint8_t *message) {
+    if (!s[CONSOLE_UP]) return NOOSELESS_IS_DOWN;
+    if (s[CONSOLE_HELD]) return NOOSELESS_OTHER_MODE;
+    if (number(s + USED) == UINT32_MAX) return NOOSELESS_SPENT;
+    put_number(s + J, take_number(s));
+    s[CONSOLE_HELD] = 1;
+    __builtin_memcpy(s + CONSOLE_MESSAGE, message, NOOSELESS_MESSAGE_LEN);
+    return NOOSELESS_NOTHING;
 }
 
 /* A console that holds no message. */
 static inline void rest(uint8_t *s) {
-    __builtin_memset(s + 8, 0, 5);
-    __builtin_memset(s + 14, 0x20, NOOSELESS_MESSAGE_LEN);
+    __builtin_memset(s + CONSOLE_LAST, 0, CONSOLE_UP - CONSOLE_LAST);
+    __builtin_memset(s + CONSOLE_MESSAGE, 0x20, NOOSELESS_MESSAGE_LEN);
 }
 
 #endif

@@ -7,22 +7,26 @@ Console fresh_console(JNumber last_used)
 {
     Console console = {0};
 
-    console.last_used = last_used;
+    console.numbers = fresh_numbers(last_used);
     clear_message(console.message);
     return console;
 }
 
-Console console_after_power_loss(JNumber last_used)
+Console console_after_power_loss(const NumberRecord *record)
 {
-    Console console = fresh_console(last_used);
+    Console console = fresh_console(0);
 
+    console.numbers = recorded_numbers(record);
     console.down = true;
     return console;
 }
 
 bool console_well_formed(const Console *console)
 {
-    if (console->j > console->last_used) {
+    if (!numbers_well_formed(&console->numbers)) {
+        return false;
+    }
+    if (console->j > console->numbers.last_used) {
         return false;
     }
     if (console->held) {
@@ -31,6 +35,11 @@ bool console_well_formed(const Console *console)
     }
     return console->j == 0 && console->last == 0 &&
            all_bytes_are(console->message, CELLS, ' ');
+}
+
+NumberRecord console_record(const Console *console)
+{
+    return record_numbers(CONSOLE_RECORD, &console->numbers);
 }
 
 int console_refusal(const Console *console, uint8_t letter)
@@ -53,7 +62,7 @@ int console_refusal(const Console *console, uint8_t letter)
     if (letter == 'D' && console->last == 0) {
         return WRONG_MODE;
     }
-    if (letter == 'P' && console->last_used == LARGEST_NUMBER) {
+    if (letter == 'P' && numbers_spent(&console->numbers)) {
         return J_SPENT;
     }
     return ACCEPTED;
@@ -70,8 +79,7 @@ static Effect put(Console *console, const uint8_t *message)
 {
     console->held = true;
     memcpy(console->message, message, CELLS);
-    console->last_used += 1;
-    console->j = console->last_used;
+    console->j = take_number(&console->numbers);
     return no_effect();
 }
 
@@ -133,6 +141,7 @@ static Effect comes_back(Console *console)
     let_go(console);
     console->j = 0;
     console->down = false;
+    numbers_come_back(&console->numbers);
     return no_effect();
 }
 

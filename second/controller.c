@@ -7,28 +7,37 @@ Controller fresh_controller(INumber last_used)
 {
     Controller controller = {0};
 
-    controller.last_used = last_used;
+    controller.numbers = fresh_numbers(last_used);
     return controller;
 }
 
-Controller controller_after_power_loss(INumber last_used)
+Controller controller_after_power_loss(const NumberRecord *record)
 {
-    Controller controller = fresh_controller(last_used);
+    Controller controller = fresh_controller(0);
 
+    controller.numbers = recorded_numbers(record);
     controller.down = true;
     return controller;
 }
 
 bool controller_well_formed(const Controller *controller)
 {
+    if (!numbers_well_formed(&controller->numbers)) {
+        return false;
+    }
     if ((controller->j != 0) != (controller->i != 0)) {
         return false;
     }
     if (controller->i != 0 && controller->last != 0) {
         return false;
     }
-    return controller->i <= controller->last_used &&
-           controller->last <= controller->last_used;
+    return controller->i <= controller->numbers.last_used &&
+           controller->last <= controller->numbers.last_used;
+}
+
+NumberRecord controller_record(const Controller *controller)
+{
+    return record_numbers(CONTROLLER_RECORD, &controller->numbers);
 }
 
 int controller_refusal(const Controller *controller, uint8_t letter)
@@ -57,17 +66,17 @@ int controller_packet_refusal(const Controller *controller, const Packet *in)
     if (in->kind == NEED_I) {
         return ACCEPTED;
     }
-    return in->first > controller->last_used ? I_ABOVE_LAST_USED : ACCEPTED;
+    return in->first > controller->numbers.last_used ? I_ABOVE_LAST_USED
+                                                     : ACCEPTED;
 }
 
 static Effect takes_need_i(Controller *controller, JNumber j)
 {
     bool idle = controller->i == 0 && controller->last == 0;
 
-    if (idle && controller->last_used != LARGEST_NUMBER) {
+    if (idle && !numbers_spent(&controller->numbers)) {
         controller->j = j;
-        controller->last_used += 1;
-        controller->i = controller->last_used;
+        controller->i = take_number(&controller->numbers);
     }
     return no_effect();
 }
@@ -129,6 +138,7 @@ static Effect comes_back(Controller *controller)
     controller->i = 0;
     controller->last = 0;
     controller->down = false;
+    numbers_come_back(&controller->numbers);
     return no_effect();
 }
 

@@ -5,22 +5,23 @@
 
 static const char packet_mark[] = "HSL";
 
-int read_mark_and_version(const uint8_t *bytes, const char *mark)
+int read_mark_and_version(const uint8_t *bytes, const char *mark,
+                          uint8_t version)
 {
     if (memcmp(bytes, mark, 3) != 0) {
         return WRONG_MARK;
     }
-    if (bytes[3] != 0 || bytes[4] != 1) {
+    if (bytes[3] != 0 || bytes[4] != version) {
         return WRONG_VERSION;
     }
     return ACCEPTED;
 }
 
-void write_mark_and_version(uint8_t *bytes, const char *mark)
+void write_mark_and_version(uint8_t *bytes, const char *mark, uint8_t version)
 {
     memcpy(bytes, mark, 3);
     bytes[3] = 0;
-    bytes[4] = 1;
+    bytes[4] = version;
 }
 
 /* The rows of the packet table; reading and writing share them. */
@@ -59,7 +60,7 @@ PacketRead read_packet(const uint8_t *bytes, size_t length)
     if (length != PACKET_BYTES) {
         return no_packet(WRONG_LENGTH);
     }
-    int refusal = read_mark_and_version(bytes, packet_mark);
+    int refusal = read_mark_and_version(bytes, packet_mark, PACKET_VERSION);
     if (refusal != ACCEPTED) {
         return no_packet(refusal);
     }
@@ -81,7 +82,7 @@ int write_packet(const Packet *packet, uint8_t *buffer, size_t length)
     if (!inside_table(packet)) {
         return OUTSIDE_TABLE;
     }
-    write_mark_and_version(buffer, packet_mark);
+    write_mark_and_version(buffer, packet_mark, PACKET_VERSION);
     buffer[5] = packet->kind;
     buffer[6] = 0;
     buffer[7] = 0;

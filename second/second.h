@@ -1,6 +1,7 @@
-/* The link and the numbering of document 01, a second time: the two ends, the
- * packets, the number records, the bench and the list program. Every entry is
- * total: any values, lengths and tables may be handed to it. */
+/* The link and the numbering of document 01, with document 02's request 1, a
+ * second time: the two ends, the packets, the number records, the bench and
+ * the list program. Every entry is total: any values, lengths and tables may
+ * be handed to it. */
 #ifndef SECOND_H
 #define SECOND_H
 
@@ -10,11 +11,14 @@
 
 #define CELLS 16u
 #define PACKET_BYTES 32u
-#define NUMBER_RECORD_BYTES 12u
+#define OLD_NUMBER_RECORD_BYTES 12u /* version 1 */
+#define NUMBER_RECORD_BYTES 16u     /* version 2 */
 #define PLACES 64u
 #define TABLE_BYTES 2048u
 #define MOST_COPIES 3u
 #define LARGEST_NUMBER UINT32_MAX
+#define FRESH_BLOCK 64u
+#define LARGEST_BLOCK 1024u
 
 /* 0 means none. A J is only ever compared with a J, and an I with an I. */
 typedef uint32_t JNumber;
@@ -74,15 +78,22 @@ Packet make_packet(uint8_t kind, uint32_t first, uint32_t second);
 Packet make_data(INumber i, const uint8_t message[CELLS]);
 Direction direction_of(uint8_t kind);
 
+#define PACKET_VERSION 1u
+
 /* What a packet and a number record begin with: 13, 14 or accepted. */
-int read_mark_and_version(const uint8_t *bytes, const char *mark);
-void write_mark_and_version(uint8_t *bytes, const char *mark);
+int read_mark_and_version(const uint8_t *bytes, const char *mark,
+                          uint8_t version);
+void write_mark_and_version(uint8_t *bytes, const char *mark, uint8_t version);
 
 enum { CONSOLE_RECORD = 1, CONTROLLER_RECORD = 2 };
 
+/* The number is reserved, in version 1 last used: a J in a console's record,
+ * an I in a controller's. */
 typedef struct {
     uint8_t end;
-    uint32_t last_used; /* a J in a console's record, an I in a controller's */
+    bool old; /* version 1, which has no block: 0 */
+    uint32_t number;
+    uint16_t block;
 } NumberRecord;
 
 /* A refused read gives a record of zeros. */
@@ -94,6 +105,32 @@ typedef struct {
 NumberRecordRead read_number_record(const uint8_t *bytes, size_t length);
 int write_number_record(const NumberRecord *record, uint8_t *buffer,
                         size_t length);
+bool block_in_range(uint16_t block);
+
+/* The record in the other version, or as it is where it has that already. */
+NumberRecord renewed(NumberRecord record);
+NumberRecord aged(NumberRecord record);
+
+/* To the version that the length of `to` names. */
+int carry_number_record(const uint8_t *from, size_t from_length, uint8_t *to,
+                        size_t to_length);
+
+/* ---- an end's numbers: numbers.c ---- */
+
+/* Reserved is never below last used, and is what survives power loss. */
+typedef struct {
+    uint32_t last_used;
+    uint32_t reserved;
+    uint16_t block;
+} Numbers;
+
+Numbers fresh_numbers(uint32_t last_used);
+Numbers recorded_numbers(const NumberRecord *record);
+bool numbers_well_formed(const Numbers *numbers);
+bool numbers_spent(const Numbers *numbers);
+uint32_t take_number(Numbers *numbers); /* of those that are not spent */
+void numbers_come_back(Numbers *numbers);
+NumberRecord record_numbers(uint8_t end, const Numbers *numbers);
 
 /* ---- the thirteen actions: actions.c ---- */
 
@@ -133,7 +170,7 @@ Effect sending(Packet packet);
 /* ---- the two ends: console.c, controller.c ---- */
 
 typedef struct {
-    JNumber last_used;
+    Numbers numbers; /* of J */
     bool held;
     uint8_t message[CELLS];
     JNumber j;
@@ -142,7 +179,7 @@ typedef struct {
 } Console;
 
 typedef struct {
-    INumber last_used;
+    Numbers numbers; /* of I */
     JNumber j;
     INumber i;
     INumber last;
@@ -150,8 +187,9 @@ typedef struct {
 } Controller;
 
 Console fresh_console(JNumber last_used);
-Console console_after_power_loss(JNumber last_used);
+Console console_after_power_loss(const NumberRecord *record);
 bool console_well_formed(const Console *console);
+NumberRecord console_record(const Console *console);
 
 /* 4, 5, 6 or 8; and what a letter does that is not refused. */
 int console_refusal(const Console *console, uint8_t letter);
@@ -159,8 +197,9 @@ Effect console_acts(Console *console, uint8_t letter, const uint8_t *message,
                     const Packet *in);
 
 Controller fresh_controller(INumber last_used);
-Controller controller_after_power_loss(INumber last_used);
+Controller controller_after_power_loss(const NumberRecord *record);
 bool controller_well_formed(const Controller *controller);
+NumberRecord controller_record(const Controller *controller);
 
 /* 4, 5 or 6; then 7; and what a letter does that is not refused. */
 int controller_refusal(const Controller *controller, uint8_t letter);

@@ -11,7 +11,7 @@ fi
 program=target/boundary
 . second/names.sh
 sources=
-for name in boundary shared wire ends every given benches lists; do
+for name in boundary shared wire records ends every given benches lists; do
     sources="$sources tests/boundary/$name.c"
 done
 for name in $core generate spoil; do

@@ -85,6 +85,10 @@ for end in console controller; do
     stage "a $end that forgets" wrong 1 $end forgets
     stage "a $end that keeps late" wrong 1 $end late
     stage "a $end that starts from 0" wrong 1 $end from_0
+    stage "a $end that takes 12 bytes as none" wrong 1 $end as_none
+    stage "a $end that keeps last used" wrong 1 $end last_used
+    stage "a $end that starts a block below" wrong 1 $end thrifty
+    stage "a $end that always keeps" wrong 4 $end always
 done
 stage "a controller that replies first" wrong 1 controller reply_first
 stage "a console that replies first" wrong 4 console reply_first

@@ -87,7 +87,7 @@ head_of() {
 unpromised() {
     while read -r function; do
         row=$(grep -F "| \`$function\` |" docs/PROMISES.md)
-        lemma=$(printf '%s\n' "$row" | sed -n 's/.*\.\([a-z-]*-determined\)`.*/\1/p')
+        lemma=$(printf '%s\n' "$row" | sed -n 's/.*\.\([a-z0-9-]*-determined\)`.*/\1/p')
         seen=$(cat crates/"${function%%::*}"/proofs/*.antt | grep "^pub $lemma :" | grep -o 'now (s ' | wc -l)
         head_of "$function" | awk -v of="$function" -v seen="$seen" '
             $3 != 1 || $4 != 0 { print of ": " $3 " ensures, " $4 " requires" }
@@ -107,7 +107,7 @@ lacking() {
         { entry = $1; sub(/^[|] /, "", entry) }
         NF != 7 { print entry ": " NF " cells"; next }
         $3 !~ /^`/ { print entry ": no definition" }
-        $4 !~ /^`[a-z0-9_]+\/[A-Z][A-Za-z]*\.[a-z-]+-determined`$/ { print entry ": no determinacy lemma" }
+        $4 !~ /^`[a-z0-9_]+\/[A-Z][A-Za-z]*\.[a-z0-9-]+-determined`$/ { print entry ": no determinacy lemma" }
         {
             split("", shut); count = 0; text = $wrong
             while (match(text, /`([a-z0-9_]+\/(Wrong[A-Za-z]*|Echoes)\.[^` ]+|([a-z_]+\/)?[A-Za-z0-9_]+\.edit)`/)) {

@@ -1,7 +1,8 @@
 #!/bin/sh
 # Two boxes over the archive, with real power cuts: demand 3 holds of what they wrote down, and the same rehearsal finds a controller that
 # forgets its numbers, and one that keeps them after the packet has left. Of that one chance may show the harm itself (1) or only that it met
-# numbers which it had not given (4); tests/header.sh finds it without chance.
+# numbers which it had not given (4); tests/header.sh finds it without chance. And a box starts from a record of either version, and from no
+# other file.
 set -u
 if [ "$(uname -m)" != x86_64 ]; then
     echo "rehearsal: not run, the archive links into x86-64 programs only"
@@ -25,9 +26,26 @@ stage() {
         ;;
     esac
 }
+# A console box whose record is of that version and cut off, or drawn out, to that length: it runs until it is stopped (124), or calls a
+# person (1).
+box_with() {
+    place=target/rehearsal/version-$1-of-$2
+    rm -rf "$place"
+    mkdir -p "$place"
+    printf "HSN\\000\\00$1\\001\\000\\000\\000\\000\\000\\007\\000\\100\\000\\000\\000" | head -c "$2" >"$place/console.record"
+    (cd "$place" && timeout 1 ../programs/console_box </dev/null 2>/dev/null)
+}
 stage 0 library ./build-lib
 stage 0 rehearsal sh examples/rehearse.sh 1000 1
 stage 1 "the forgetful controller" sh examples/rehearse.sh --broken 400 1
 stage "1 4" "the late controller" sh examples/rehearse.sh --late 400 1
+stage 124 "version 1 in 12 bytes" box_with 1 12
+stage 124 "version 2 in 16 bytes" box_with 2 16
+for length in 0 11 13 15 16 17; do
+    stage 1 "version 1 in $length bytes" box_with 1 "$length"
+done
+for length in 12 15 17; do
+    stage 1 "version 2 in $length bytes" box_with 2 "$length"
+done
 echo "$passed passed, $failed failed"
 [ "$failed" -eq 0 ]

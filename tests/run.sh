@@ -57,8 +57,8 @@ explains() {
             next
         }
         left == 5 && $0 ~ "^  refused " report ": [a-zA-Z]" { left = 4; next }
-        left == 4 && /^  console (up|down), (idle|needI j=[0-9]+|send last=[0-9]+), last used J [0-9]+(, holds ".*")?$/ { left = 3; next }
-        left == 3 && /^  controller (up|down), (idle|accept j=[0-9]+ i=[0-9]+|ack last=[0-9]+), last used I [0-9]+$/ { left = 2; next }
+        left == 4 && /^  console (up|down), (idle|needI j=[0-9]+|send last=[0-9]+), last used J [0-9]+, reserved to [0-9]+(, holds ".*")?$/ { left = 3; next }
+        left == 3 && /^  controller (up|down), (idle|accept j=[0-9]+ i=[0-9]+|ack last=[0-9]+), last used I [0-9]+, reserved to [0-9]+$/ { left = 2; next }
         left == 2 && /^  to controller:( empty|( (needI|data|done)[(][0-9]+[)])+)$/ { left = 1; next }
         left == 1 && /^  to console:( empty|( (offer[(][0-9]+,|OK[(]|lost[(])[0-9]+[)])+)$/ { left = 0; next }
         { left = 6; exit }

@@ -1,5 +1,5 @@
 #!/bin/sh
-# The second program, written from document 01 alone: it builds without a warning, its own tests and hand-made lists pass, and
+# The second program, written from documents 01 and 02 alone: it builds without a warning, its own tests and hand-made lists pass, and
 # every one-rule mutant of it is told apart as its table says.
 set -u
 . tests/stages.inc

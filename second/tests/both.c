@@ -39,11 +39,13 @@ void check_alone(const Bench *before, const Bench *after,
     }
     CHECK(alone.report == outcome->report && alone.refusal == outcome->refusal);
     CHECK(memcmp(alone.message, outcome->message, CELLS) == 0);
-    CHECK(console_is(&console, after->console.last_used, after->console.held,
-                     after->console.j, after->console.last,
-                     after->console.down));
+    CHECK(same_numbers(&console.numbers, &after->console.numbers));
+    CHECK(console_is(&console, after->console.numbers.last_used,
+                     after->console.held, after->console.j,
+                     after->console.last, after->console.down));
     CHECK(memcmp(console.message, after->console.message, CELLS) == 0);
-    CHECK(controller_is(&controller, after->controller.last_used,
+    CHECK(same_numbers(&controller.numbers, &after->controller.numbers));
+    CHECK(controller_is(&controller, after->controller.numbers.last_used,
                         after->controller.j, after->controller.i,
                         after->controller.last, after->controller.down));
     if (alone.written && record->copies > 0) {

@@ -18,13 +18,13 @@ static void start_box(Box *box, Actor end)
 void start_console_box(Box *box, JNumber last_used)
 {
     start_box(box, CONSOLE);
-    box->console.last_used = last_used;
+    box->console.numbers = fresh_numbers(last_used);
 }
 
 void start_controller_box(Box *box, INumber last_used)
 {
     start_box(box, CONTROLLER);
-    box->controller.last_used = last_used;
+    box->controller.numbers = fresh_numbers(last_used);
 }
 
 void set_console(Box *box, JNumber j, INumber last)
@@ -54,6 +54,23 @@ Outcome run_box(Box *box, char letter)
     }
     return controller_alone(&box->controller, (uint8_t)letter, box->packet,
                             box->packet_length, box->reply, box->reply_length);
+}
+
+void check_all_letters(Box *box, bool good)
+{
+    const char *letters = box->end == CONSOLE ? "PQDSCV" : "OKRXY";
+
+    for (size_t n = 0; letters[n] != '\0'; n++) {
+        Box before;
+        Outcome outcome;
+
+        memcpy(&before, box, sizeof before);
+        outcome = run_box(box, letters[n]);
+        CHECK((outcome.refusal == ILL_FORMED) != good);
+        CHECK(good || (is_refusal(&outcome, ILL_FORMED) &&
+                       same_box(box, &before)));
+        memcpy(box, &before, sizeof before);
+    }
 }
 
 bool same_box(const Box *one, const Box *other)

@@ -24,6 +24,9 @@ void start_controller_box(Box *box, INumber last_used);
 void set_console(Box *box, JNumber j, INumber last);
 void set_packet_in(Box *box, uint8_t kind, uint32_t first, uint32_t second);
 Outcome run_box(Box *box, char letter);
+
+/* 2 for each letter of the end, or for none if it is good. */
+void check_all_letters(Box *box, bool good);
 bool same_box(const Box *one, const Box *other);
 bool reply_is(const Box *box, uint8_t kind, uint32_t first, uint32_t second);
 bool reply_untouched(const Box *box);

@@ -118,17 +118,29 @@ bool same_bench(const Fixture *one, const Fixture *other)
            memcmp(one->to_console, other->to_console, TABLE_BYTES) == 0;
 }
 
+bool numbers_are(const Numbers *numbers, uint32_t last_used, uint32_t reserved,
+                 uint16_t block)
+{
+    return numbers->last_used == last_used && numbers->reserved == reserved &&
+           numbers->block == block;
+}
+
+bool same_numbers(const Numbers *one, const Numbers *other)
+{
+    return numbers_are(one, other->last_used, other->reserved, other->block);
+}
+
 bool console_is(const Console *console, JNumber last_used, bool held, JNumber j,
                 INumber last, bool down)
 {
-    return console->last_used == last_used && console->held == held &&
+    return console->numbers.last_used == last_used && console->held == held &&
            console->j == j && console->last == last && console->down == down;
 }
 
 bool controller_is(const Controller *controller, INumber last_used, JNumber j,
                    INumber i, INumber last, bool down)
 {
-    return controller->last_used == last_used && controller->j == j &&
+    return controller->numbers.last_used == last_used && controller->j == j &&
            controller->i == i && controller->last == last &&
            controller->down == down;
 }

@@ -18,7 +18,7 @@ static void spoil_end(Box *box)
 {
     box->console.j = 1;
     box->console.last = 1;
-    box->controller.last = box->controller.last_used + 1;
+    box->controller.last = box->controller.numbers.last_used + 1;
 }
 
 static void spoil_packet_length(Box *box)
@@ -81,12 +81,12 @@ static void change_mode(Box *box)
 
 static void spend_numbers(Box *box)
 {
-    box->console.last_used = LARGEST_NUMBER;
+    box->console.numbers = fresh_numbers(LARGEST_NUMBER);
 }
 
 static void raise_i(Box *box)
 {
-    set_number(box->packet + 8, box->controller.last_used + 1);
+    set_number(box->packet + 8, box->controller.numbers.last_used + 1);
 }
 
 /* In the order of document 01. */
@@ -109,7 +109,8 @@ static const Fault faults[] = {
 
 #define FAULTS (sizeof faults / sizeof faults[0])
 
-/* A box in which the letter is accepted, and has something to send. */
+/* A box in which the letter is accepted, and has something to send; with
+ * numbers that are reserved and not used. */
 static void start_good(Box *box, char letter)
 {
     if (strchr("PQDSCV", letter) != NULL) {
@@ -123,6 +124,8 @@ static void start_good(Box *box, char letter)
         box->controller.last = letter == 'K' ? 6 : 0;
         set_packet_in(box, DATA, 5, 0);
     }
+    box->console.numbers.reserved = 64;
+    box->controller.numbers.reserved = 64;
     box->letter = (uint8_t)letter;
     box->console.down = letter == 'V';
     box->controller.down = letter == 'Y';
@@ -199,6 +202,7 @@ static void check_i_above(void)
                 bool above = kinds[k] != NEED_I && number > 8;
 
                 start_controller_box(&box, 8);
+                box.controller.numbers.reserved = 8 + (uint32_t)mode;
                 box.controller.j = mode == 1 ? 3 : 0;
                 box.controller.i = mode == 1 ? 8 : 0;
                 box.controller.last = mode == 2 ? 8 : 0;

@@ -21,6 +21,18 @@ static uint32_t draw_number_up_to(Generator *generator, uint32_t largest)
     return number <= largest ? number : largest;
 }
 
+static Numbers draw_numbers(Generator *generator)
+{
+    static const uint16_t blocks[] = {1, 2, FRESH_BLOCK, LARGEST_BLOCK};
+    Numbers numbers = fresh_numbers(draw_number(generator));
+
+    if (draw(generator, 2) == 0) {
+        numbers.last_used = draw_number_up_to(generator, numbers.reserved);
+    }
+    numbers.block = blocks[draw(generator, sizeof blocks / sizeof blocks[0])];
+    return numbers;
+}
+
 static void draw_message(Generator *generator, uint8_t message[CELLS])
 {
     memset(message, (int)(0x20 + draw(generator, 0x5F)), CELLS);
@@ -32,8 +44,10 @@ static void draw_ends(Generator *generator, Bench *bench)
     Controller *controller = &bench->controller;
     uint64_t mode = draw(generator, 9);
 
-    *console = fresh_console(draw_number(generator));
-    *controller = fresh_controller(draw_number(generator));
+    *console = fresh_console(0);
+    *controller = fresh_controller(0);
+    console->numbers = draw_numbers(generator);
+    controller->numbers = draw_numbers(generator);
     console->down = draw(generator, 8) == 0;
     controller->down = draw(generator, 8) == 0;
     if (mode % 3 != 0) {
@@ -41,15 +55,17 @@ static void draw_ends(Generator *generator, Bench *bench)
         draw_message(generator, console->message);
     }
     if (mode % 3 == 1) {
-        console->j = draw_number_up_to(generator, console->last_used);
+        console->j = draw_number_up_to(generator, console->numbers.last_used);
     } else if (mode % 3 == 2) {
         console->last = draw_number(generator);
     }
     if (mode / 3 == 1) {
         controller->j = draw_number(generator);
-        controller->i = draw_number_up_to(generator, controller->last_used);
+        controller->i =
+            draw_number_up_to(generator, controller->numbers.last_used);
     } else if (mode / 3 == 2) {
-        controller->last = draw_number_up_to(generator, controller->last_used);
+        controller->last =
+            draw_number_up_to(generator, controller->numbers.last_used);
     }
 }
 
@@ -89,7 +105,7 @@ static void draw_fault(Generator *generator, Fixture *f)
 {
     uint8_t byte = (uint8_t)draw(generator, 256);
 
-    switch (draw(generator, 5)) {
+    switch (draw(generator, 7)) {
     case 0:
         f->to_controller[draw(generator, TABLE_BYTES)] = byte;
         break;
@@ -101,6 +117,12 @@ static void draw_fault(Generator *generator, Fixture *f)
         break;
     case 3:
         f->bench.console.last = byte;
+        break;
+    case 4:
+        f->bench.console.numbers.block = (uint16_t)(8 * byte);
+        break;
+    case 5:
+        f->bench.controller.numbers.reserved = byte;
         break;
     default:
         f->bench.controller.last = byte;

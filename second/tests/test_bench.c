@@ -51,6 +51,7 @@ static void check_lost_although_delivered(void)
     CHECK(play(&f, "S1=LO"));
     CHECK(message_is(f.last.message, ""));
     CHECK(console_is(&f.bench.console, 1, false, 0, 0, false));
+    CHECK(numbers_are(&f.bench.controller.numbers, 64, 64, 64));
 }
 
 static void check_delivered_while_next_held(void)
@@ -59,7 +60,8 @@ static void check_delivered_while_next_held(void)
 
     CHECK(play_fresh(&f, "Pa Q1 R0 O1 S0 D1 C V Pb R0=DL"));
     CHECK(message_is(f.last.message, "a"));
-    CHECK(console_is(&f.bench.console, 2, true, 2, 0, false));
+    CHECK(console_is(&f.bench.console, 65, true, 65, 0, false));
+    CHECK(numbers_are(&f.bench.console.numbers, 65, 128, 64));
     CHECK(message_is(f.bench.console.message, "b"));
 }
 
@@ -143,10 +145,10 @@ void test_easy_mistakes(void)
     CHECK(play(&f, "D1 R0=DL"));
     /* i kept through a restart, or its counter started again */
     CHECK(play_fresh(&f, "Pa Q2 R0 X Y O1=06 R0 O1"));
-    CHECK(packet_at_is(&f.bench.to_console, 0, OFFER, 1, 2));
+    CHECK(packet_at_is(&f.bench.to_console, 0, OFFER, 1, 65));
     CHECK(play_fresh(&f, "Pa Q2 R0 O1 X Y S0 D1 R1:1 S0=LO"));
     CHECK(play_fresh(&f, "C V P C V P Q1"));
-    CHECK(packet_at_is(&f.bench.to_controller, 0, NEED_I, 2, 0));
+    CHECK(packet_at_is(&f.bench.to_controller, 0, NEED_I, 65, 0));
     /* a put is no delivery */
     CHECK(play_fresh(&f, "P"));
     CHECK(f.last.report == NOTHING && message_is(f.last.message, ""));

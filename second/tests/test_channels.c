@@ -3,19 +3,22 @@
 
 #include <string.h>
 
+/* The first J of the blocks that these digits name: 1, 65, 129. */
 static bool firsts_are(const Channel *channel, const char *digits)
 {
     for (size_t n = 0; n < channel->count; n++) {
         uint32_t first = get_number(place_in(channel, n) + 8);
+        uint32_t before = (uint32_t)(digits[n] - '1') * FRESH_BLOCK;
 
-        if (digits[n] == '\0' || first != (uint32_t)(digits[n] - '0')) {
+        if (digits[n] == '\0' || first != before + 1) {
             return false;
         }
     }
     return digits[channel->count] == '\0';
 }
 
-/* needI packets of three puts, copies of each side by side. */
+/* needI packets of three puts, copies of each side by side; a console that
+ * came back takes its number from the next block. */
 static void check_order(void)
 {
     Fixture f;
@@ -29,7 +32,7 @@ static void check_order(void)
     CHECK(firsts_are(channel, "133"));
     CHECK(play(&f, "R1 Q1 L0"));
     CHECK(firsts_are(channel, "33"));
-    CHECK(controller_is(&f.bench.controller, 1, 3, 1, 0, false));
+    CHECK(controller_is(&f.bench.controller, 1, 129, 1, 0, false));
     CHECK(play(&f, "L1 L0 L0=03"));
     CHECK(all_bytes_are(f.to_controller, TABLE_BYTES, 0));
 }
@@ -199,7 +202,10 @@ void test_fresh_bench(void)
                       f.to_console, TABLE_BYTES) == ACCEPTED);
     CHECK(bench_well_formed(&f.bench));
     CHECK(console_is(&f.bench.console, 7, false, 0, 0, false));
+    CHECK(numbers_are(&f.bench.console.numbers, 7, 7, 64));
     CHECK(controller_is(&f.bench.controller, LARGEST_NUMBER, 0, 0, 0, false));
+    CHECK(numbers_are(&f.bench.controller.numbers, LARGEST_NUMBER,
+                      LARGEST_NUMBER, 64));
     CHECK(f.bench.to_controller.count == 0 && f.bench.to_console.count == 0);
     CHECK(f.bench.to_controller.table == f.to_controller);
     CHECK(f.bench.to_console.table == f.to_console);

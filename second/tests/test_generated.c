@@ -224,12 +224,16 @@ static void check_piece(Run *run, const uint8_t *piece, size_t records)
 /* The generator's own bench goes the same way, but for the messages. */
 static bool same_way(const Bench *one, const Bench *other)
 {
-    return console_is(&one->console, other->console.last_used,
-                      other->console.held, other->console.j,
-                      other->console.last, other->console.down) &&
-           controller_is(&one->controller, other->controller.last_used,
-                         other->controller.j, other->controller.i,
-                         other->controller.last, other->controller.down) &&
+    const Console *console = &other->console;
+    const Controller *controller = &other->controller;
+
+    return same_numbers(&one->console.numbers, &console->numbers) &&
+           console_is(&one->console, console->numbers.last_used, console->held,
+                      console->j, console->last, console->down) &&
+           same_numbers(&one->controller.numbers, &controller->numbers) &&
+           controller_is(&one->controller, controller->numbers.last_used,
+                         controller->j, controller->i, controller->last,
+                         controller->down) &&
            one->to_controller.count == other->to_controller.count &&
            one->to_console.count == other->to_console.count;
 }

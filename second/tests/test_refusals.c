@@ -80,7 +80,7 @@ static void change_mode(Trial *trial)
 
 static void spend_numbers(Trial *trial)
 {
-    trial->f.bench.console.last_used = LARGEST_NUMBER;
+    trial->f.bench.console.numbers = fresh_numbers(LARGEST_NUMBER);
 }
 
 static void raise_place(Trial *trial)
@@ -125,7 +125,8 @@ static const Fault faults[] = {
 
 #define FAULTS (sizeof faults / sizeof faults[0])
 
-/* A bench on which the letter is accepted, and has something to send. */
+/* A bench on which the letter is accepted, and has something to send; with
+ * numbers that are reserved and not used. */
 static void start_good(Trial *trial, char letter, size_t copies)
 {
     Bench *bench = &trial->f.bench;
@@ -134,6 +135,8 @@ static void start_good(Trial *trial, char letter, size_t copies)
 
     memset(trial, 0, sizeof *trial);
     start(&trial->f, 5, 8);
+    bench->console.numbers.reserved = 64;
+    bench->controller.numbers.reserved = 64;
     set_packet(&bench->to_controller, 0, &data);
     set_packet(&bench->to_console, 0, &ok);
     if (letter == 'Q' || letter == 'D') {
@@ -265,6 +268,12 @@ static void check_ill_formed_parts(void)
     check_every_letter_is(&f, ILL_FORMED);
     start(&f, 5, 8);
     f.bench.controller.last = 9;
+    check_every_letter_is(&f, ILL_FORMED);
+    start(&f, 5, 8);
+    f.bench.console.numbers.reserved = 4;
+    check_every_letter_is(&f, ILL_FORMED);
+    start(&f, 5, 8);
+    f.bench.controller.numbers.block = LARGEST_BLOCK + 1;
     check_every_letter_is(&f, ILL_FORMED);
     start(&f, 5, 8);
     check_every_letter_is(&f, ACCEPTED);

@@ -26,6 +26,10 @@ static const struct {
 } groups[] = {
     {"packets", test_packets},
     {"number records", test_number_records},
+    {"number records carried", test_carried_records},
+    {"numbers", test_numbers},
+    {"numbers that are not well formed", test_ill_formed_numbers},
+    {"power loss", test_power_loss},
     {"starts of an end", test_starts},
     {"ends that are not well formed", test_ill_formed_ends},
     {"rules of the console", test_console_rules},

@@ -30,6 +30,9 @@ void copy_fixture(Fixture *to, const Fixture *from);
 bool same_bench(const Fixture *one, const Fixture *other);
 void set_message(uint8_t message[CELLS], const char *text);
 bool message_is(const uint8_t message[CELLS], const char *text);
+bool numbers_are(const Numbers *numbers, uint32_t last_used, uint32_t reserved,
+                 uint16_t block);
+bool same_numbers(const Numbers *one, const Numbers *other);
 bool console_is(const Console *console, JNumber last_used, bool held, JNumber j,
                 INumber last, bool down);
 bool controller_is(const Controller *controller, INumber last_used, JNumber j,
@@ -53,6 +56,10 @@ void check_alone(const Bench *before, const Bench *after,
 /* The groups. */
 void test_packets(void);
 void test_number_records(void);
+void test_carried_records(void);
+void test_numbers(void);
+void test_ill_formed_numbers(void);
+void test_power_loss(void);
 void test_starts(void);
 void test_ill_formed_ends(void);
 void test_console_rules(void);

@@ -12,9 +12,9 @@ static Bench bench_from(struct lent *l) {
     int whole = call.state_len == NOOSELESS_BENCH_STATE_LEN;
     Bench b;
     b.console = console_from(l->state, whole ? NOOSELESS_CONSOLE_STATE_LEN : 0);
-    b.controller = controller_from(l->state + NOOSELESS_CONSOLE_STATE_LEN, whole ? NOOSELESS_CONTROLLER_STATE_LEN : 0);
-    b.to_controller = (Channel){l->out, call.out_len, whole ? l->state[47] : PLACES + 1};
-    b.to_console = (Channel){l->back, call.back_len, whole ? l->state[48] : PLACES + 1};
+    b.controller = controller_from(l->state + BENCH_CONTROLLER, whole ? NOOSELESS_CONTROLLER_STATE_LEN : 0);
+    b.to_controller = (Channel){l->out, call.out_len, whole ? l->state[BENCH_OUT] : PLACES + 1};
+    b.to_console = (Channel){l->back, call.back_len, whole ? l->state[BENCH_BACK] : PLACES + 1};
     return b;
 }
 
@@ -25,7 +25,7 @@ static unsigned end_rules(const Bench *b, uint8_t letter) {
     const Console *c = &b->console;
     const Controller *d = &b->controller;
     switch (letter) {
-    case 'P': return rule(4, c->down) | rule(6, c->held) | rule(8, c->last_used == UINT32_MAX);
+    case 'P': return rule(4, c->down) | rule(6, c->held) | rule(8, c->numbers.last_used == UINT32_MAX);
     case 'Q': return rule(4, c->down) | rule(6, c->j == 0);
     case 'D': return rule(4, c->down) | rule(6, c->last == 0);
     case 'S': return rule(4, c->down);
@@ -42,7 +42,7 @@ static unsigned end_rules(const Bench *b, uint8_t letter) {
 static unsigned sent_rules(const Bench *b, const Action *a, const Packet *in, unsigned known) {
     Bench after = *b;
     const Channel *to = a->actor == CONSOLE ? &b->to_controller : &b->to_console;
-    unsigned rules = rule(7, a->letter == 'R' && (in->kind == DATA || in->kind == DONE) && in->first > b->controller.last_used);
+    unsigned rules = rule(7, a->letter == 'R' && (in->kind == DATA || in->kind == DONE) && in->first > b->controller.numbers.last_used);
     if (!a->copies || (known & rule(6, 1)) || !is_table(to)) return rules;
     Effect e = a->actor == CONSOLE ? console_acts(&after.console, a->letter, given.message, in) : controller_acts(&after.controller, a->letter, in);
     return rules | rule(9, e.sends && call.copies > PLACES - to->count);
@@ -69,14 +69,15 @@ static unsigned rules_of(const Bench *b) {
 
 static void state_to(const Bench *b, uint8_t *s) {
     console_to(&b->console, s);
-    controller_to(&b->controller, s + NOOSELESS_CONSOLE_STATE_LEN);
-    s[47] = (uint8_t)b->to_controller.count;
-    s[48] = (uint8_t)b->to_console.count;
+    controller_to(&b->controller, s + BENCH_CONTROLLER);
+    s[BENCH_OUT] = (uint8_t)b->to_controller.count;
+    s[BENCH_BACK] = (uint8_t)b->to_console.count;
 }
 
 static void step(void) {
     ours = theirs = given;
     Bench b = bench_from(&theirs);
+    Bench before = b;
     unsigned rules = rules_of(&b);
     Outcome o = bench_step(&b, call.letter, call.place, call.copies, theirs.message);
     entry = "the first rule of a bench's step";
@@ -89,6 +90,8 @@ static void step(void) {
                                call.copies, ours.message, ours.delivered) == want);
     check(!memcmp(&ours, &theirs, sizeof ours));
     count(&benches, o.refusal, rules);
+    moved(&benches, call.letter, &before.console.numbers, &b.console.numbers);
+    moved(&benches, call.letter, &before.controller.numbers, &b.controller.numbers);
 }
 
 static void fresh(void) {
@@ -131,7 +134,7 @@ void one_of_benches(void) {
     else step();
 }
 
-/* ---- every byte, every count, every place ---- */
+/* ---- every byte, every count, every place, every corner ---- */
 
 /* Every bit of a state and of both tables turned, one at a time. */
 static void every_bit(void) {
@@ -157,7 +160,7 @@ static void every_count(void) {
                 next_case();
                 good_bench();
                 set_counts(which ? other : held, which ? held : other);
-                given.state[47 + which] = (uint8_t)n;
+                given.state[BENCH_OUT + which] = (uint8_t)n;
                 some_call();
                 call.letter = (uint8_t)LETTERS[i];
                 call.place = n + roll(3) - 1;
@@ -184,16 +187,33 @@ static void every_place(void) {
             }
 }
 
+/* Numbers of each end at their corners, every letter. */
+static void every_corner(void) {
+    for (size_t k = 0; k < CORNERS; k++)
+        for (int controller = 0; controller < 2; controller++)
+            for (size_t i = 0; i < 13; i++) {
+                Numbers numbers = corner(k);
+                next_case();
+                good_bench();
+                numbers_to(&numbers, given.state + (controller ? BENCH_CONTROLLER : 0));
+                some_call();
+                call.letter = (uint8_t)LETTERS[i];
+                step();
+            }
+}
+
 void all_benches(void) {
     scribble((uint8_t *)&given, sizeof given);
     every_bit();
     every_count();
     every_place();
+    every_corner();
 }
 
 /* 12 to 15 are for an end run alone. */
 int enough_benches(void) {
     static const Pair known[] = {{1, 2}, {2, 3}, {2, 4}, {2, 5}, {2, 6}, {2, 7}, {2, 8}, {2, 9}, {2, 10}, {2, 11}, {3, 4}, {3, 10}, {4, 6},
         {4, 7}, {4, 8}, {4, 9}, {4, 10}, {4, 11}, {6, 8}, {6, 10}, {6, 11}, {7, 9}, {7, 10}, {8, 11}, {9, 10}};
-    return enough(&benches, "benches", 0x0FFEu, known, sizeof known / sizeof *known);
+    int steps = enough_steps(&benches, "benches");
+    return enough_rules(&benches, "benches", 0x0FFEu, known, sizeof known / sizeof *known) && steps;
 }

@@ -2,9 +2,10 @@
  * The archive's entries beside the second program, in one process: any bytes, valid, damaged in one byte, or by chance. Each answer and every
  * lent buffer, with the bytes around it, must be what the second program says.
  *
- * boundary CASES SEED: first each bit of packets, number records and ends' states, each bit, count and place of a bench, then as many cases
- * by chance. Prints how often each refusal, and each pair of refusals that apply together, was met. Ends with 1 at the first difference, with
- * 3 if a refusal, a pair that it knows of, or a report was met fewer than LEAST times.
+ * boundary CASES SEED: first each bit of packets, number records and ends' states, each length of a record, numbers at their corners, each bit,
+ * count and place of a bench, then as many cases by chance. Prints how often each refusal, and each pair of refusals that apply together, was
+ * met. Ends with 1 at the first difference, with 3 if a refusal, a pair that it knows of, a report or a way in which numbers move was met fewer
+ * than LEAST times.
  */
 #include "shared.h"
 
@@ -17,7 +18,8 @@ static void one_case(void) {
     uint32_t lot = roll(20);
     next_case();
     if (roll(CASES_A_LIST) == 0) one_list();
-    else if (lot < 4) one_of_wire();
+    else if (lot < 2) one_of_wire();
+    else if (lot < 4) one_of_records();
     else if (lot < 16) one_of_ends();
     else one_of_benches();
 }
@@ -35,6 +37,7 @@ int main(int argc, char **argv) {
     printf("%lu cases, no difference\n", cases);
     tell_lists();
     int all = enough_ends();
+    all = enough_records() && all;
     if (enough_benches() && all) return 0;
     printf("too few of a kind for this to say anything\n");
     return 3;

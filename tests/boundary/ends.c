@@ -9,13 +9,13 @@ struct asked asked;
 static struct box ours, theirs;
 
 static void some_console(uint8_t *s) {
-    Console c = fresh_console(some_number());
+    Console c = fresh_console(0);
     uint32_t mode = roll(3);
     scribble(s, ROOM);
-    if (roll(24) == 0) c.last_used = UINT32_MAX;
+    c.numbers = some_numbers();
     c.down = roll(4) == 0;
     c.held = mode != 0;
-    if (mode == 1) c.j = roll(2) ? c.last_used : some_number();
+    if (mode == 1) c.j = roll(2) ? c.numbers.last_used : some_number();
     if (mode == 2) c.last = some_number();
     if (c.held) some_message(c.message);
     console_to(&c, s);
@@ -24,15 +24,16 @@ static void some_console(uint8_t *s) {
 }
 
 static void some_controller(uint8_t *s) {
-    Controller c = fresh_controller(some_number());
+    Controller c = fresh_controller(0);
     uint32_t mode = roll(3);
     scribble(s, ROOM);
+    c.numbers = some_numbers();
     c.down = roll(4) == 0;
     if (mode == 1) {
         c.j = some_number();
-        c.i = roll(2) ? c.last_used : some_number();
+        c.i = roll(2) ? c.numbers.last_used : some_number();
     }
-    if (mode == 2) c.last = roll(2) ? c.last_used : some_number();
+    if (mode == 2) c.last = roll(2) ? c.numbers.last_used : some_number();
     controller_to(&c, s);
     if (roll(8) == 0) damage(s, NOOSELESS_CONTROLLER_STATE_LEN);
     if (roll(40) == 0) scribble(s, ROOM);
@@ -44,7 +45,7 @@ static unsigned packet_rules(Direction own) {
     uint8_t mended[PACKET_BYTES];
     if (asked.in_len != PACKET_BYTES) return rule(12, 1);
     memcpy(mended, box.in, sizeof mended);
-    write_mark_and_version(mended, "HSL");
+    write_mark_and_version(mended, "HSL", PACKET_VERSION);
     PacketRead r = read_packet(mended, sizeof mended);
     return rule(13, memcmp(box.in, "HSL", 3) != 0) | rule(14, box.in[3] != 0 || box.in[4] != 1) |
            rule(15, r.refusal != 0 || direction_of(r.packet.kind) != own);
@@ -59,11 +60,11 @@ static unsigned console_end_rules(void) {
     const uint8_t *s = box.state;
     if (asked.state_len != NOOSELESS_CONSOLE_STATE_LEN) return 0;
     switch (asked.letter) {
-    case 'P': return rule(4, s[13] == 0) | rule(6, s[12] == 1) | rule(8, get_number(s) == UINT32_MAX);
-    case 'Q': return rule(4, s[13] == 0) | rule(6, get_number(s + 4) == 0);
-    case 'D': return rule(4, s[13] == 0) | rule(6, get_number(s + 8) == 0);
-    case 'S': return rule(4, s[13] == 0);
-    case 'V': return rule(5, s[13] == 1);
+    case 'P': return rule(4, s[CONSOLE_UP] == 0) | rule(6, s[CONSOLE_HELD] == 1) | rule(8, get_number(s + AT_USED) == UINT32_MAX);
+    case 'Q': return rule(4, s[CONSOLE_UP] == 0) | rule(6, get_number(s + AT_J) == 0);
+    case 'D': return rule(4, s[CONSOLE_UP] == 0) | rule(6, get_number(s + CONSOLE_LAST) == 0);
+    case 'S': return rule(4, s[CONSOLE_UP] == 0);
+    case 'V': return rule(5, s[CONSOLE_UP] == 1);
     default: return 0;
     }
 }
@@ -75,10 +76,10 @@ static unsigned controller_end_rules(void) {
     PacketRead r = read_packet(box.in, asked.in_len);
     int bears_i = r.refusal == 0 && (r.packet.kind == DATA || r.packet.kind == DONE);
     switch (asked.letter) {
-    case 'O': return rule(4, s[16] == 0) | rule(6, get_number(s + 8) == 0);
-    case 'K': return rule(4, s[16] == 0) | rule(6, get_number(s + 12) == 0);
-    case 'R': return rule(4, s[16] == 0) | rule(7, bears_i && r.packet.first > get_number(s));
-    case 'Y': return rule(5, s[16] == 1);
+    case 'O': return rule(4, s[CONTROLLER_UP] == 0) | rule(6, get_number(s + CONTROLLER_I) == 0);
+    case 'K': return rule(4, s[CONTROLLER_UP] == 0) | rule(6, get_number(s + CONTROLLER_LAST) == 0);
+    case 'R': return rule(4, s[CONTROLLER_UP] == 0) | rule(7, bears_i && r.packet.first > get_number(s + AT_USED));
+    case 'Y': return rule(5, s[CONTROLLER_UP] == 1);
     default: return 0;
     }
 }
@@ -100,6 +101,14 @@ static unsigned controller_rules(const Controller *c) {
 }
 
 /* ---- the entries ---- */
+
+/* By the second program's bytes. */
+static int rewritten(NumberRecord before, NumberRecord after) {
+    uint8_t bytes[2][NUMBER_RECORD_BYTES] = {{0}};
+    write_number_record(&before, bytes[0], NUMBER_RECORD_BYTES);
+    write_number_record(&after, bytes[1], NUMBER_RECORD_BYTES);
+    return memcmp(bytes[0], bytes[1], NUMBER_RECORD_BYTES) != 0;
+}
 
 /* The archive's own number records of two states, which are well formed. */
 static int records_differ(int controller, const uint8_t *before, const uint8_t *after) {
@@ -127,52 +136,64 @@ static void compare(int controller, const Outcome *o, unsigned rules, int keep, 
 void console_step(void) {
     ours = theirs = box;
     Console c = console_from(theirs.state, asked.state_len);
-    uint32_t used = c.last_used;
+    Console before = c;
     unsigned rules = console_rules(&c);
     Outcome o = console_alone(&c, asked.letter, theirs.message, theirs.in, asked.in_len, theirs.out, asked.out_len);
     if (o.report != REFUSED) console_to(&c, theirs.state);
     uint8_t got = nooseless_console_step(ours.state, asked.state_len, asked.letter, ours.message, ours.in, asked.in_len, ours.out, asked.out_len);
-    compare(0, &o, rules, c.last_used != used, got);
+    compare(0, &o, rules, rewritten(console_record(&before), console_record(&c)), got);
+    moved(&ends, asked.letter, &before.numbers, &c.numbers);
 }
 
 void controller_step(void) {
     ours = theirs = box;
     Controller c = controller_from(theirs.state, asked.state_len);
-    uint32_t used = c.last_used;
+    Controller before = c;
     unsigned rules = controller_rules(&c);
     Outcome o = controller_alone(&c, asked.letter, theirs.in, asked.in_len, theirs.out, asked.out_len);
     if (o.report != REFUSED) controller_to(&c, theirs.state);
     if (o.report == DELIVERED) memcpy(theirs.delivered, o.message, CELLS);
     uint8_t got = nooseless_controller_step(ours.state, asked.state_len, asked.letter, ours.in, asked.in_len, ours.out, asked.out_len,
                                             ours.delivered);
-    compare(1, &o, rules, c.last_used != used, got);
+    compare(1, &o, rules, rewritten(controller_record(&before), controller_record(&c)), got);
+    moved(&ends, asked.letter, &before.numbers, &c.numbers);
 }
 
-/* Fresh, or after power loss from a record: of either end. */
-void started(int controller, int downed) {
-    size_t n = asked.state_len, m = asked.in_len;
+static size_t right_state(int controller) { return controller ? NOOSELESS_CONTROLLER_STATE_LEN : NOOSELESS_CONSOLE_STATE_LEN; }
+
+void fresh_end(int controller) {
+    size_t n = asked.state_len;
     uint32_t last = some_number();
-    int refusal = 0;
-    entry = downed ? "nooseless_.._downed" : "nooseless_.._fresh";
+    int refusal = n == right_state(controller) ? 0 : 2;
+    entry = "nooseless_.._fresh";
     ours = theirs = box;
-    if (downed) {
-        NumberRecordRead r = read_number_record(theirs.in, m);
-        refusal = r.refusal == 0 && r.record.end != (controller ? CONTROLLER_RECORD : CONSOLE_RECORD) ? 15 : r.refusal;
-        last = refusal == 0 ? r.record.last_used : 0;
-    }
-    if (n != (controller ? NOOSELESS_CONTROLLER_STATE_LEN : NOOSELESS_CONSOLE_STATE_LEN)) refusal = 2;
-    if (refusal == 0 && controller) {
-        Controller c = downed ? controller_after_power_loss(last) : fresh_controller(last);
-        controller_to(&c, theirs.state);
-    } else if (refusal == 0) {
-        Console c = downed ? console_after_power_loss(last) : fresh_console(last);
-        console_to(&c, theirs.state);
-    }
-    uint8_t got = controller ? (downed ? nooseless_controller_downed(ours.state, n, ours.in, m) : nooseless_controller_fresh(ours.state, n, last))
-                             : (downed ? nooseless_console_downed(ours.state, n, ours.in, m) : nooseless_console_fresh(ours.state, n, last));
-    check(got == refusal);
+    Controller d = fresh_controller(last);
+    Console c = fresh_console(last);
+    if (refusal == 0 && controller) controller_to(&d, theirs.state);
+    else if (refusal == 0) console_to(&c, theirs.state);
+    check((controller ? nooseless_controller_fresh(ours.state, n, last) : nooseless_console_fresh(ours.state, n, last)) == refusal);
     check(!memcmp(&ours, &theirs, sizeof ours));
     count(&ends, refusal, 0);
+}
+
+/* After power loss: 2 for the length alone, then the record's refusals, 15 for the other end's too. */
+void downed_end(int controller, int old) {
+    size_t n = asked.state_len, m = asked.in_len;
+    uint8_t own = controller ? CONTROLLER_RECORD : CONSOLE_RECORD;
+    ours = theirs = box;
+    NumberRecordRead r = read_number_record(theirs.in, m);
+    int refusal = n != right_state(controller) ? 2 : r.refusal == 0 && r.record.end != own ? 15 : r.refusal;
+    unsigned rules = rule(2, n != right_state(controller)) | record_rules(theirs.in, m, own);
+    entry = "the first rule of an end downed";
+    check(refusal == first_of(rules));
+    entry = "nooseless_.._downed";
+    Controller d = controller_after_power_loss(&r.record);
+    Console c = console_after_power_loss(&r.record);
+    if (refusal == 0 && controller) controller_to(&d, theirs.state);
+    else if (refusal == 0) console_to(&c, theirs.state);
+    check((controller ? nooseless_controller_downed(ours.state, n, ours.in, m) : nooseless_console_downed(ours.state, n, ours.in, m)) == refusal);
+    check(!memcmp(&ours, &theirs, sizeof ours));
+    count(&records[(controller ? CONTROLLER_DOWNED_OLD : CONSOLE_DOWNED_OLD) + !old], refusal, rules);
 }
 
 /* The number record of a state, of either end. */
@@ -182,14 +203,12 @@ void record_of(int controller) {
     ours = theirs = box;
     Controller b = controller_from(theirs.state, n);
     Console c = console_from(theirs.state, n);
-    int refusal = 2;
-    if (controller ? controller_well_formed(&b) : console_well_formed(&c)) {
-        NumberRecord r = {controller ? CONTROLLER_RECORD : CONSOLE_RECORD, controller ? b.last_used : c.last_used};
-        refusal = write_number_record(&r, theirs.out, m);
-    }
+    int well = controller ? controller_well_formed(&b) : console_well_formed(&c);
+    NumberRecord r = controller ? controller_record(&b) : console_record(&c);
+    int refusal = well ? write_number_record(&r, theirs.out, m) : 2;
     check((controller ? nooseless_controller_record(ours.state, n, ours.out, m) : nooseless_console_record(ours.state, n, ours.out, m)) == refusal);
     check(!memcmp(&ours, &theirs, sizeof ours));
-    count(&ends, refusal, 0);
+    count(&records[controller ? RECORD_OF_CONTROLLER : RECORD_OF_CONSOLE], refusal, rule(2, !well) | rule(12, m != NUMBER_RECORD_BYTES));
 }
 
 /* A state of that end, of every sort, and the rest by chance. */
@@ -199,7 +218,7 @@ static void some_box(int controller) {
     some_message(box.message);
     if (controller) some_controller(box.state);
     else some_console(box.state);
-    asked.state_len = some_length(controller ? NOOSELESS_CONTROLLER_STATE_LEN : NOOSELESS_CONSOLE_STATE_LEN);
+    asked.state_len = some_length(right_state(controller));
 }
 
 static void some_step(int controller) {
@@ -214,13 +233,17 @@ static void some_step(int controller) {
 
 /* Started, or asked for its record. */
 static void some_other(void) {
-    int controller = (int)roll(2), lot = (int)roll(3);
+    int controller = (int)roll(2);
     some_box(controller);
-    some_record(box.in);
-    asked.in_len = some_length(NUMBER_RECORD_BYTES);
-    asked.out_len = some_length(NUMBER_RECORD_BYTES);
-    if (lot == 2) record_of(controller);
-    else started(controller, lot);
+    int old = some_record(box.in);
+    asked.in_len = some_record_length(old);
+    asked.out_len = some_record_length(0);
+    if (roll(6) == 0) asked.state_len = roll(ROOM);
+    switch (roll(4)) {
+    case 0: fresh_end(controller); break;
+    case 1: record_of(controller); break;
+    default: downed_end(controller, old);
+    }
 }
 
 void one_of_ends(void) {
@@ -235,6 +258,7 @@ int enough_ends(void) {
         {4, 7}, {4, 8}, {4, 11}, {4, 12}, {4, 13}, {4, 14}, {4, 15}, {6, 8}, {6, 11}, {6, 12}, {7, 12}, {8, 11}, {12, 13}, {12, 14},
         {12, 15}, {13, 14}, {13, 15}, {14, 15}};
     printf("ends alone: %lu times a record to keep, %lu times a packet sent\n", ends.kept, ends.sent);
-    return enough(&ends, "packets, records and ends alone", 0xFFFEu & ~(1u << 3 | 1u << 9 | 1u << 10), known, sizeof known / sizeof *known) &&
-           ends.kept >= LEAST && ends.sent >= LEAST;
+    int steps = enough_steps(&ends, "ends alone");
+    return enough_rules(&ends, "packets and ends alone", 0xFFFEu & ~(1u << 3 | 1u << 9 | 1u << 10), known, sizeof known / sizeof *known) &&
+           steps && ends.kept >= LEAST && ends.sent >= LEAST;
 }

@@ -15,52 +15,61 @@ static uint32_t some_number_to(uint32_t most) {
 
 uint32_t some_used(void) { return roll(6) == 0 ? UINT32_MAX : some_number(); }
 
+/* Often spent; with a number used, where one is to be held. */
+static Numbers used_numbers(int used) {
+    Numbers n;
+    do n = roll(6) == 0 ? fresh_numbers(UINT32_MAX) : good_numbers();
+    while (used && n.last_used == 0);
+    return n;
+}
+
 static void some_cells(uint8_t m[CELLS]) {
     do some_message(m);
     while (!all_cells(m));
 }
 
 static Console good_console(void) {
-    Console c = fresh_console(some_used());
+    Console c = fresh_console(0);
     uint32_t mode = roll(3);
+    c.numbers = used_numbers(mode == 1);
     c.down = roll(4) == 0;
     if (mode == 0) return c;
     c.held = true;
     some_cells(c.message);
-    if (mode == 1 && c.last_used == 0) c.last_used = 1;
-    if (mode == 1) c.j = some_number_to(c.last_used);
+    if (mode == 1) c.j = some_number_to(c.numbers.last_used);
     else c.last = some_number_to(UINT32_MAX);
     return c;
 }
 
 static Controller good_controller(void) {
-    Controller c = fresh_controller(some_used());
+    Controller c = fresh_controller(0);
     uint32_t mode = roll(3);
+    c.numbers = used_numbers(mode != 0);
     c.down = roll(4) == 0;
-    if (mode == 0 || c.last_used == 0) return c;
+    if (mode == 0) return c;
     if (mode == 1) {
         c.j = some_number_to(UINT32_MAX);
-        c.i = some_number_to(c.last_used);
+        c.i = some_number_to(c.numbers.last_used);
     } else {
-        c.last = some_number_to(c.last_used);
+        c.last = some_number_to(c.numbers.last_used);
     }
     return c;
 }
 
 /* A packet of a direction, its numbers often those of the ends. */
-static Packet good_packet(Direction d) {
+static Packet good_packet(Direction way) {
     static const uint8_t kinds[2][3] = {[TO_CONTROLLER] = {NEED_I, DATA, DONE}, [TO_CONSOLE] = {OFFER, OK, LOST}};
-    const uint8_t *s = given.state;
-    Packet p = make_packet(kinds[d][roll(3)], some_number_to(UINT32_MAX), 0);
+    const uint8_t *s = given.state, *d = s + BENCH_CONTROLLER;
+    Packet p = make_packet(kinds[way][roll(3)], some_number_to(UINT32_MAX), 0);
     if (p.kind == OFFER) {
         p.second = some_number_to(UINT32_MAX);
-        if (roll(3) && get_number(s + 4)) p.first = get_number(s + 4);
-        if (roll(3) && get_number(s + 8)) p.second = get_number(s + 8);
+        if (roll(3) && get_number(s + AT_J)) p.first = get_number(s + AT_J);
+        if (roll(3) && get_number(s + CONSOLE_LAST)) p.second = get_number(s + CONSOLE_LAST);
     } else if (roll(3)) {
-        uint32_t i = get_number(s + 38), n = d == TO_CONSOLE ? get_number(s + 8) : i ? i : get_number(s + 42);
+        uint32_t i = get_number(d + CONTROLLER_I), n = way == TO_CONSOLE ? get_number(s + CONSOLE_LAST) : i ? i : get_number(d + CONTROLLER_LAST);
         if (n) p.first = n;
-    } else if (roll(2) && get_number(s + 30) != UINT32_MAX) {
-        p.first = get_number(s + 30) + 1;
+    } else if (roll(2) && get_number(d + AT_USED) != UINT32_MAX) {
+        p.first = get_number(d + AT_USED) + 1;
     }
     if (p.kind == DATA) some_cells(p.message);
     return p;
@@ -92,15 +101,15 @@ static void fill(uint8_t *table, Direction d, size_t count) {
 void set_counts(size_t out, size_t back) {
     fill(given.out, TO_CONTROLLER, out);
     fill(given.back, TO_CONSOLE, back);
-    given.state[47] = (uint8_t)out;
-    given.state[48] = (uint8_t)back;
+    given.state[BENCH_OUT] = (uint8_t)out;
+    given.state[BENCH_BACK] = (uint8_t)back;
 }
 
 void good_bench(void) {
     Console c = good_console();
     Controller d = good_controller();
     console_to(&c, given.state);
-    controller_to(&d, given.state + NOOSELESS_CONSOLE_STATE_LEN);
+    controller_to(&d, given.state + BENCH_CONTROLLER);
     uint32_t out = some_count(), back = some_count();
     set_counts(out, back);
     call.state_len = NOOSELESS_BENCH_STATE_LEN;
@@ -119,7 +128,7 @@ static size_t some_huge(void) {
 /* A place, with a packet of the letter's way in it that has to do with the ends; or none. */
 static void some_place(void) {
     int from_out = takes_from_out(call.letter);
-    size_t count = given.state[from_out ? 47 : 48];
+    size_t count = given.state[from_out ? BENCH_OUT : BENCH_BACK];
     uint8_t *table = from_out ? given.out : given.back;
     uint32_t lot = roll(8);
     call.place = count && lot < 6 ? roll((uint32_t)count) : lot == 6 ? some_huge() : count + roll(3);
@@ -137,24 +146,39 @@ void some_call(void) {
 
 /* ---- a bench not well formed, in each way ---- */
 
+/* Last used above reserved, or a block that is none. */
+static void spoil_numbers(uint8_t *s) {
+    uint16_t block = no_block();
+    uint32_t used = get_number(s + AT_USED);
+    if (roll(2) && used) {
+        set_number(s + AT_RESERVED, roll(2) ? used - 1 : roll(used));
+        return;
+    }
+    s[AT_BLOCK] = (uint8_t)(block >> 8);
+    s[AT_BLOCK + 1] = (uint8_t)block;
+}
+
 static void spoil_console(void) {
     uint8_t *s = given.state;
-    switch (roll(7)) {
-    case 0: s[12 + roll(2)] = (uint8_t)(2 + roll(254)); break;
-    case 1: s[12] ^= 1; break;
-    case 2: set_number(s + 4, some_number()); break;
-    case 3: set_number(s + 8, some_number()); break;
-    case 4: s[14 + roll(CELLS)] = (uint8_t)roll(256); break;
-    case 5: set_number(s, some_number()); break;
+    switch (roll(8)) {
+    case 0: s[CONSOLE_HELD + roll(2)] = (uint8_t)(2 + roll(254)); break;
+    case 1: s[CONSOLE_HELD] ^= 1; break;
+    case 2: set_number(s + AT_J, some_number()); break;
+    case 3: set_number(s + CONSOLE_LAST, some_number()); break;
+    case 4: s[CONSOLE_MESSAGE + roll(CELLS)] = (uint8_t)roll(256); break;
+    case 5: set_number(s + AT_USED, some_number()); break;
+    case 6: spoil_numbers(s); break;
     default: damage(s, NOOSELESS_CONSOLE_STATE_LEN);
     }
 }
 
 static void spoil_controller(void) {
-    uint8_t *s = given.state + NOOSELESS_CONSOLE_STATE_LEN;
-    switch (roll(4)) {
-    case 0: s[16] = (uint8_t)(2 + roll(254)); break;
-    case 1: case 2: set_number(s + 4 * roll(4), some_number()); break;
+    static const size_t numbers_at[] = {AT_USED, AT_J, CONTROLLER_I, CONTROLLER_LAST};
+    uint8_t *s = given.state + BENCH_CONTROLLER;
+    switch (roll(5)) {
+    case 0: s[CONTROLLER_UP] = (uint8_t)(2 + roll(254)); break;
+    case 1: case 2: set_number(s + numbers_at[roll(4)], some_number()); break;
+    case 3: spoil_numbers(s); break;
     default: damage(s, NOOSELESS_CONTROLLER_STATE_LEN);
     }
 }
@@ -173,7 +197,7 @@ static void spoil_length(void) {
 /* A byte of a packet, a byte above the count, a packet of the other way, a packet above the count, none below it; a count. */
 static void spoil_table(void) {
     int which = (int)roll(2);
-    uint8_t *table = which ? given.back : given.out, *n = &given.state[47 + which];
+    uint8_t *table = which ? given.back : given.out, *n = &given.state[BENCH_OUT + which];
     uint32_t used = *n * PACKET_BYTES;
     Direction way = which ? TO_CONSOLE : TO_CONTROLLER, other = which ? TO_CONTROLLER : TO_CONSOLE;
     uint32_t lot = roll(6);

@@ -45,6 +45,51 @@ uint32_t some_number(void) {
     }
 }
 
+uint16_t some_block(void) {
+    static const uint16_t corners[] = {1, 2, 63, 64, 65, 1023, 1024};
+    return roll(2) ? (uint16_t)(1 + roll(1024)) : corners[roll(sizeof corners / sizeof *corners)];
+}
+
+uint16_t no_block(void) {
+    static const uint16_t corners[] = {0, 1025, 65535};
+    return roll(2) ? (uint16_t)(1025 + roll(UINT16_MAX - 1024)) : corners[roll(sizeof corners / sizeof *corners)];
+}
+
+/* Equal, which makes the next one grow; one apart; any way apart; the largest, and so near to it that the block may fit, just fit or not. */
+Numbers good_numbers(void) {
+    Numbers n = fresh_numbers(roll(8) == 0 ? UINT32_MAX : some_number());
+    n.block = some_block();
+    switch (roll(6)) {
+    case 0: n.reserved += n.reserved != UINT32_MAX; break;
+    case 1: n.reserved += roll(2) ? (uint32_t)below(&chance, (uint64_t)UINT32_MAX - n.last_used + 1) : UINT32_MAX - n.last_used; break;
+    case 2: n.last_used = n.reserved = UINT32_MAX - n.block + roll(3) - 1; break;
+    case 3:
+        n.reserved = UINT32_MAX - roll(1025);
+        n.last_used = n.reserved - (roll(2) ? roll(2) : roll(1025));
+        break;
+    default: break;
+    }
+    return n;
+}
+
+Numbers some_numbers(void) {
+    Numbers n = good_numbers();
+    if (roll(24) == 0) n.block = no_block();
+    if (roll(24) == 0 && n.last_used) n.reserved = roll(2) ? n.last_used - 1 : (uint32_t)below(&chance, n.last_used);
+    return n;
+}
+
+Numbers corner(size_t k) {
+    static const uint32_t pairs[][2] = {{4, 4}, {4, 5}, {4, 3}, {0, 0}, {4, UINT32_MAX}, {UINT32_MAX, UINT32_MAX}, {UINT32_MAX, UINT32_MAX - 1},
+        {UINT32_MAX - 1, UINT32_MAX}, {UINT32_MAX - 1, UINT32_MAX - 1}, {UINT32_MAX - 64, UINT32_MAX - 64}, {UINT32_MAX - 65, UINT32_MAX - 65},
+        {UINT32_MAX - 1023, UINT32_MAX - 1023}, {UINT32_MAX - 1024, UINT32_MAX - 1024}, {UINT32_MAX - 1025, UINT32_MAX - 1025},
+        {UINT32_MAX - 1024, UINT32_MAX}};
+    static const uint16_t blocks[] = {0, 1, 63, 64, 1023, 1024, 1025, 65535};
+    enum { BLOCKS = sizeof blocks / sizeof *blocks };
+    _Static_assert(CORNERS == BLOCKS * sizeof pairs / sizeof *pairs, "each pair with each block");
+    return (Numbers){pairs[k / BLOCKS][0], pairs[k / BLOCKS][1], blocks[k % BLOCKS]};
+}
+
 void good_message(uint8_t m[CELLS]) {
     for (size_t i = 0; i < CELLS; i++) m[i] = (uint8_t)(0x20 + roll(0x5F));
 }
@@ -69,9 +114,10 @@ uint8_t some_letter(const char *own) {
 
 /* A packet whose numbers are often those in the state's bytes. */
 void some_packet(uint8_t *bytes, const uint8_t *state) {
+    static const size_t numbers_at[] = {AT_USED, AT_RESERVED, AT_J, CONTROLLER_I, CONTROLLER_LAST};
     Packet p = make_packet((uint8_t)(1 + roll(6)), some_number(), 0);
     scribble(bytes, ROOM);
-    if (roll(3) != 0) p.first = get_number(state + 4 * roll(4));
+    if (roll(3) != 0) p.first = get_number(state + numbers_at[roll(5)]);
     if (p.first == 0 && roll(8) != 0) p.first = 1 + roll(4);
     if (p.kind == OFFER) p.second = roll(4) == 0 ? some_number() : 1 + roll(4);
     if (p.kind == DATA) some_message(p.message);
@@ -82,55 +128,84 @@ void some_packet(uint8_t *bytes, const uint8_t *state) {
     if (roll(16) == 0) bytes[6 + roll(2)] ^= 4;
 }
 
-void some_record(uint8_t *bytes) {
-    NumberRecord r = {(uint8_t)(1 + roll(2)), some_number()};
+/* Each fault by its own chance, so that they meet. */
+int some_record(uint8_t *bytes) {
+    NumberRecord r = {(uint8_t)(1 + roll(2)), roll(2), some_number(), some_block()};
+    size_t n = r.old ? OLD_NUMBER_RECORD_BYTES : NUMBER_RECORD_BYTES;
     scribble(bytes, ROOM);
-    write_number_record(&r, bytes, NUMBER_RECORD_BYTES);
-    if (roll(2) == 0) damage(bytes, NUMBER_RECORD_BYTES);
+    write_number_record(&r, bytes, n);
+    if (roll(8) == 0) damage(bytes, n);
+    if (roll(5) == 0) bytes[roll(3)] ^= 1;
+    if (roll(5) == 0) bytes[3 + roll(2)] ^= roll(2) ? 3 : 4;
+    if (roll(5) == 0) bytes[5 + roll(3)] ^= 4;
+    if (roll(5) == 0 && !r.old) {
+        uint16_t block = no_block();
+        bytes[12] = (uint8_t)(block >> 8);
+        bytes[13] = (uint8_t)block;
+    }
+    if (roll(10) == 0 && !r.old) bytes[14 + roll(2)] ^= 1;
+    return r.old;
+}
+
+/* Of that version; now and then of the other, or of neither. */
+size_t some_record_length(int old) {
+    if (roll(12) == 0) old = !old;
+    return some_length(old ? OLD_NUMBER_RECORD_BYTES : NUMBER_RECORD_BYTES);
 }
 
 /* ---- states, laid out a second time ---- */
 
+void numbers_to(const Numbers *n, uint8_t *s) {
+    set_number(s + AT_USED, n->last_used);
+    set_number(s + AT_RESERVED, n->reserved);
+    s[AT_BLOCK] = (uint8_t)(n->block >> 8);
+    s[AT_BLOCK + 1] = (uint8_t)n->block;
+}
+
+static Numbers numbers_from(const uint8_t *s) {
+    return (Numbers){get_number(s + AT_USED), get_number(s + AT_RESERVED), (uint16_t)(s[AT_BLOCK] << 8 | s[AT_BLOCK + 1])};
+}
+
 void console_to(const Console *c, uint8_t *s) {
-    set_number(s, c->last_used);
-    set_number(s + 4, c->j);
-    set_number(s + 8, c->last);
-    s[12] = c->held;
-    s[13] = !c->down;
-    memcpy(s + 14, c->message, CELLS);
+    numbers_to(&c->numbers, s);
+    set_number(s + AT_J, c->j);
+    set_number(s + CONSOLE_LAST, c->last);
+    s[CONSOLE_HELD] = c->held;
+    s[CONSOLE_UP] = !c->down;
+    memcpy(s + CONSOLE_MESSAGE, c->message, CELLS);
 }
 
 /* Bytes that are no state are read as a console that is not well formed. */
 Console console_from(const uint8_t *s, size_t n) {
     Console c = fresh_console(0);
     c.j = 1;
-    if (n != NOOSELESS_CONSOLE_STATE_LEN || s[12] > 1 || s[13] > 1) return c;
-    c.last_used = get_number(s);
-    c.j = get_number(s + 4);
-    c.last = get_number(s + 8);
-    c.held = s[12];
-    c.down = !s[13];
-    memcpy(c.message, s + 14, CELLS);
+    if (n != NOOSELESS_CONSOLE_STATE_LEN || s[CONSOLE_HELD] > 1 || s[CONSOLE_UP] > 1) return c;
+    c.numbers = numbers_from(s);
+    c.j = get_number(s + AT_J);
+    c.last = get_number(s + CONSOLE_LAST);
+    c.held = s[CONSOLE_HELD];
+    c.down = !s[CONSOLE_UP];
+    memcpy(c.message, s + CONSOLE_MESSAGE, CELLS);
     return c;
 }
 
 void controller_to(const Controller *c, uint8_t *s) {
-    set_number(s, c->last_used);
-    set_number(s + 4, c->j);
-    set_number(s + 8, c->i);
-    set_number(s + 12, c->last);
-    s[16] = !c->down;
+    numbers_to(&c->numbers, s);
+    set_number(s + AT_J, c->j);
+    set_number(s + CONTROLLER_I, c->i);
+    set_number(s + CONTROLLER_LAST, c->last);
+    s[CONTROLLER_UP] = !c->down;
 }
 
 Controller controller_from(const uint8_t *s, size_t n) {
     Controller c = fresh_controller(0);
     c.j = 1;
-    if (n != NOOSELESS_CONTROLLER_STATE_LEN || s[16] > 1) return c;
-    c.last_used = get_number(s);
-    c.j = get_number(s + 4);
-    c.i = get_number(s + 8);
-    c.last = get_number(s + 12);
-    c.down = !s[16];
+    if (n != NOOSELESS_CONTROLLER_STATE_LEN || s[CONTROLLER_UP] > 1) return c;
+    c.numbers = numbers_from(s);
+    c.j = get_number(s + AT_J);
+    c.i = get_number(s + CONTROLLER_I);
+    c.last = get_number(s + CONTROLLER_LAST);
+    c.down = !s[CONTROLLER_UP];
     return c;
 }
 
@@ -156,6 +231,15 @@ uint8_t told_by(struct tally *t, const Outcome *o, int keep) {
     return (uint8_t)(number[o->report] | (keep ? 0x20 : 0) | (o->written ? 0x80 : 0));
 }
 
+void moved(struct tally *t, uint8_t letter, const Numbers *before, const Numbers *after) {
+    uint32_t more = after->reserved - before->reserved;
+    if (after->last_used == before->last_used) return;
+    if (letter == 'V' || letter == 'Y') t->back++;
+    else if (more == 0) t->within++;
+    else t->grown++;
+    t->capped += more != 0 && more < before->block;
+}
+
 void count(struct tally *t, int refusal, unsigned rules) {
     t->met[refusal]++;
     for (unsigned a = 1; a < 16; a++)
@@ -163,10 +247,10 @@ void count(struct tally *t, int refusal, unsigned rules) {
             if ((rules >> a & 1u) && (rules >> b & 1u)) t->pairs[a][b]++;
 }
 
-/* Whether each of these refusals, pairs and reports was met LEAST times, and no other pair. */
-int enough(struct tally *t, const char *name, unsigned refusals, const Pair *known, size_t n) {
-    int all = 1;
-    printf("%s: %lu delivered, %lu OK, %lu lost\n  refusals met ", name, t->told[DELIVERED], t->told[ANSWERED_OK], t->told[ANSWERED_LOST]);
+/* Whether each of these refusals and pairs, and none, was met LEAST times, and no other pair. */
+int enough_rules(struct tally *t, const char *name, unsigned refusals, const Pair *known, size_t n) {
+    int all = t->met[0] >= LEAST;
+    printf("%s: %lu accepted\n  refusals met ", name, t->met[0]);
     for (unsigned r = 1; r < 16; r++) {
         if (!(refusals >> r & 1u)) continue;
         if (t->met[r] < LEAST) all = 0;
@@ -186,6 +270,15 @@ int enough(struct tally *t, const char *name, unsigned refusals, const Pair *kno
                 printf("a pair not thought of: %u/%u\n", a, b);
                 all = 0;
             }
+    return all;
+}
+
+/* Whether each report came, and numbers moved in each way, LEAST times. */
+int enough_steps(struct tally *t, const char *name) {
+    int all = t->within >= LEAST && t->grown >= LEAST && t->capped >= LEAST && t->back >= LEAST;
+    printf("%s: %lu delivered, %lu OK, %lu lost\n", name, t->told[DELIVERED], t->told[ANSWERED_OK], t->told[ANSWERED_LOST]);
+    printf("  numbers taken within the block: %lu, by growing: %lu, by growing less than the block: %lu, used up by coming back: %lu\n", t->within,
+           t->grown, t->capped, t->back);
     for (int i = NOTHING; i <= ANSWERED_LOST; i++)
         if (t->told[i] < LEAST) all = 0;
     return all;

@@ -32,7 +32,7 @@ static size_t used_by(void (*f)(void)) {
 }
 
 static uint8_t console[NOOSELESS_CONSOLE_STATE_LEN], controller[NOOSELESS_CONTROLLER_STATE_LEN];
-static uint8_t record[NOOSELESS_RECORD_LEN], message[NOOSELESS_MESSAGE_LEN], delivered[NOOSELESS_MESSAGE_LEN];
+static uint8_t record[NOOSELESS_RECORD_LEN], old_record[NOOSELESS_OLD_RECORD_LEN], message[NOOSELESS_MESSAGE_LEN], delivered[NOOSELESS_MESSAGE_LEN];
 static uint8_t in[NOOSELESS_PACKET_LEN], out[NOOSELESS_PACKET_LEN];
 static uint8_t bench[NOOSELESS_BENCH_STATE_LEN], forth[NOOSELESS_TABLE_LEN], home[NOOSELESS_TABLE_LEN];
 static uint8_t list[200 * NOOSELESS_LIST_RECORD_LEN], lines[200 * NOOSELESS_LINE_LEN];
@@ -40,6 +40,7 @@ static volatile uint8_t letter, told; /* the compiler doesn't see what the calls
 static volatile size_t place, copies, written;
 static uint8_t kind, cells[NOOSELESS_MESSAGE_LEN];
 static uint32_t first, second;
+static uint16_t block;
 
 static void step_console(void) {
     told = nooseless_console_step(console, sizeof console, letter, message, in, sizeof in, out, sizeof out);
@@ -63,8 +64,10 @@ static void show_bench(void) {
 }
 static void read_packet(void) { told = nooseless_read_packet(in, sizeof in, &kind, &first, &second, cells); }
 static void write_packet(void) { told = nooseless_write_packet(out, sizeof out, kind, first, second, cells); }
-static void read_record(void) { told = nooseless_read_record(record, sizeof record, &kind, &first); }
-static void write_record(void) { told = nooseless_write_record(record, sizeof record, NOOSELESS_CONSOLE, first); }
+static void read_record(void) { told = nooseless_read_record(record, sizeof record, &kind, &first, &block); }
+static void write_record(void) { told = nooseless_write_record(record, sizeof record, NOOSELESS_CONSOLE, first, block); }
+static void age_record(void) { told = nooseless_carry_record(record, sizeof record, old_record, sizeof old_record); }
+static void renew_record(void) { told = nooseless_carry_record(old_record, sizeof old_record, record, sizeof record); }
 static void play(void) { written = nooseless_run(list, sizeof list, lines, sizeof lines); }
 static void nothing(void) {}
 
@@ -77,8 +80,10 @@ static const struct {
                {"console_downed", down_console, 512},   {"controller_downed", down_controller, 512},   {"bench_fresh", start_bench, 512},
                {"bench_step", step_bench, 2048},        {"bench_show", show_bench, 512},               {"run", play, 6144},
                {"read_packet", read_packet, 512},       {"write_packet", write_packet, 512},           {"read_record", read_record, 512},
-               {"write_record", write_record, 512}};
-enum { CONSOLE_STEP = 2, CONTROLLER_STEP = 3, RECORD = 4, DOWNED = 6, BENCH_FRESH = 8, BENCH_STEP, BENCH_SHOW, RUN, READ_PACKET, WRITE_PACKET, READ_RECORD, WRITE_RECORD };
+               {"write_record", write_record, 512},     {"carry_record to version 1", age_record, 512},
+               {"carry_record to version 2", renew_record, 512}};
+enum { CONSOLE_STEP = 2, CONTROLLER_STEP = 3, RECORD = 4, DOWNED = 6, BENCH_FRESH = 8, BENCH_STEP, BENCH_SHOW, RUN, READ_PACKET, WRITE_PACKET,
+       READ_RECORD, WRITE_RECORD, AGE_RECORD, RENEW_RECORD };
 
 static struct chance chance;
 static size_t most[sizeof entries / sizeof *entries];
@@ -114,6 +119,8 @@ static void alone(void) {
     end = (int)below(&chance, 2);
     run(RECORD + end);
     run(READ_RECORD);
+    run(AGE_RECORD);
+    run(RENEW_RECORD);
     run(DOWNED + end);
     letter = end ? 'Y' : 'V';
     run(end ? CONTROLLER_STEP : CONSOLE_STEP);

@@ -1,4 +1,4 @@
-/* Packets and number records, read and written. */
+/* Packets, read and written. */
 #include "alone.h"
 
 #include <string.h>
@@ -37,47 +37,13 @@ static void packet_written(void) {
     count(&ends, refusal, 0);
 }
 
-void record_read(const uint8_t in[ROOM], size_t n) {
-    uint8_t in2[ROOM], end = (uint8_t)roll(256), end2 = end;
-    uint32_t last = some_number(), last2 = last;
-    entry = "nooseless_read_record";
-    memcpy(in2, in, ROOM);
-    NumberRecordRead r = read_number_record(in2, n);
-    if (r.refusal == 0) {
-        end2 = r.record.end;
-        last2 = r.record.last_used;
-    }
-    check(nooseless_read_record(in, n, &end, &last) == r.refusal);
-    check(!memcmp(in, in2, ROOM) && end == end2 && last == last2);
-    count(&ends, r.refusal, 0);
-}
-
-static void record_written(void) {
-    uint8_t out[ROOM], out2[ROOM];
-    entry = "nooseless_write_record";
-    NumberRecord r = {(uint8_t)(roll(4) == 0 ? roll(256) : 1 + roll(2)), some_number()};
-    scribble(out, ROOM);
-    memcpy(out2, out, ROOM);
-    size_t n = some_length(NUMBER_RECORD_BYTES);
-    int refusal = write_number_record(&r, out2, n);
-    check(nooseless_write_record(out, n, r.end, r.last_used) == refusal);
-    check(!memcmp(out, out2, ROOM));
-    count(&ends, refusal, 0);
-}
-
 void one_of_wire(void) {
     uint8_t in[ROOM], numbers[ROOM];
-    switch (roll(4)) {
-    case 0:
-        scribble(numbers, ROOM);
-        some_packet(in, numbers);
-        packet_read(in, some_length(PACKET_BYTES));
-        break;
-    case 1: packet_written(); break;
-    case 2:
-        some_record(in);
-        record_read(in, some_length(NUMBER_RECORD_BYTES));
-        break;
-    default: record_written();
+    if (roll(2)) {
+        packet_written();
+        return;
     }
+    scribble(numbers, ROOM);
+    some_packet(in, numbers);
+    packet_read(in, some_length(PACKET_BYTES));
 }

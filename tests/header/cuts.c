@@ -1,9 +1,11 @@
 /*
  * Both loops over a radio that does anything but invent, with power cuts before and after everything that a loop does, each byte of a record
- * that is being kept included: cuts TURNS SEED. Every choice is the seed's. Demand 3 is judged by rows and doses, and the rule of nooseless.h
- * held to every step: what it leaves to be done is done in the rule's order before the next.
+ * that is being kept included: cuts TURNS SEED. Every choice is the seed's. While a box is off, a person may carry its record back to version 1,
+ * or give it another block. Demand 3 is judged by rows and doses, and the rule of nooseless.h held to every step: what it leaves to be done is
+ * done in the rule's order before the next.
  *
- * Ends with 0, with 1 if demand 3 is broken, with 3 if too little happened, with 4 if the rule is broken or a number came that was never given.
+ * Ends with 0, with 1 if demand 3 is broken, with 3 if too little happened, with 4 if the rule is broken, a number came that was never given or
+ * one was used twice.
  */
 #include <setjmp.h>
 #include <stdio.h>
@@ -16,12 +18,13 @@
 #define AIR 65536u
 #define CUT 400 /* one in so many moments */
 #define TORN 100 /* one in so many bytes of a record that is written */
+#define SERVICE 10 /* one in so many starts comes after a person was at the record */
 
 static struct chance chance;
 static jmp_buf power;
 static int on[2], running;
 static unsigned long now; /* the turn */
-static unsigned long cuts[2], between, broken, alarms, junk, torn;
+static unsigned long cuts[2], between, broken, alarms, junk, torn, keepings, used_up, old_starts, reused;
 
 static void may_fail(void) {
     if (below(&chance, CUT) == 0) longjmp(power, 1);
@@ -33,6 +36,8 @@ static struct left {
     int keep, show, send;
     uint8_t record[NOOSELESS_RECORD_LEN], reply[NOOSELESS_PACKET_LEN];
 } left[2];
+
+static int started[2]; /* no record kept since */
 
 static void rule(int kept) {
     if (!kept) broken++;
@@ -46,6 +51,11 @@ void stepped(int end, uint8_t told, const uint8_t *before, const uint8_t *after,
     rule(changed == (!nooseless_is_refusal(told) && (told & NOOSELESS_KEEP) != 0));
     if (nooseless_is_refusal(told)) return;
     l->keep = changed;
+    if (changed) {
+        keepings++;
+        used_up += !started[end];
+        started[end] = 0;
+    }
     l->show = nooseless_report(told);
     l->send = (told & NOOSELESS_SENT) != 0;
     memcpy(l->record, after, NOOSELESS_RECORD_LEN);
@@ -70,20 +80,22 @@ static void sent(int end, const uint8_t *packet) {
 
 /* ---- Flash: a record with its check sum in two places. A place is erased and then written byte by byte ---- */
 
-#define PLACE (NOOSELESS_RECORD_LEN + 4)
+#define SUM 4
+#define PLACE (NOOSELESS_RECORD_LEN + SUM)
 
 static uint8_t places[2][2][PLACE];
 
-static void with_sum(uint8_t *whole, const uint8_t *record) {
+static void with_sum(uint8_t *whole, const uint8_t *record, size_t length) {
     uint32_t sum = 2166136261u;
-    for (int i = 0; i < NOOSELESS_RECORD_LEN; i++) sum = (sum ^ record[i]) * 16777619u;
-    memcpy(whole, record, NOOSELESS_RECORD_LEN);
-    memcpy(whole + NOOSELESS_RECORD_LEN, &sum, sizeof sum);
+    for (size_t i = 0; i < length; i++) sum = (sum ^ record[i]) * 16777619u;
+    memset(whole, 0xFF, PLACE);
+    memcpy(whole, record, length);
+    memcpy(whole + length, &sum, SUM);
 }
 
-static void write_place(uint8_t *place, const uint8_t *record) {
+static void write_place(uint8_t *place, const uint8_t *record, size_t length) {
     uint8_t whole[PLACE];
-    with_sum(whole, record);
+    with_sum(whole, record, length);
     memset(place, 0xFF, PLACE);
     unsigned first = (unsigned)below(&chance, PLACE);
     for (unsigned i = 0; i < PLACE; i++) {
@@ -92,42 +104,89 @@ static void write_place(uint8_t *place, const uint8_t *record) {
     }
 }
 
+static void write_both(int end, const uint8_t *record, size_t length) {
+    write_place(places[end][0], record, length);
+    write_place(places[end][1], record, length);
+}
+
 static void keep(int end, const uint8_t *record) {
     may_fail();
-    write_place(places[end][0], record);
-    write_place(places[end][1], record);
+    write_both(end, record, NOOSELESS_RECORD_LEN);
     kept(end, record);
     may_fail();
 }
 
-static int reads(const uint8_t *place, uint32_t *number) {
-    uint8_t whose, whole[PLACE];
-    with_sum(whole, place);
-    return memcmp(whole, place, PLACE) == 0 && nooseless_read_record(place, NOOSELESS_RECORD_LEN, &whose, number) == 0;
+/* The length of the record in a place, of either version; 0 where none is whole. */
+static size_t reads(const uint8_t *place, uint32_t *number) {
+    static const size_t lengths[] = {NOOSELESS_RECORD_LEN, NOOSELESS_OLD_RECORD_LEN};
+    for (int i = 0; i < 2; i++) {
+        uint8_t whose, whole[PLACE];
+        uint16_t block;
+        with_sum(whole, place, lengths[i]);
+        if (memcmp(whole, place, PLACE) == 0 && nooseless_read_record(place, lengths[i], &whose, number, &block) == 0) return lengths[i];
+    }
+    return 0;
 }
 
-/* The larger of those that are whole; then the other is written anew from it. */
+/* That of the larger number of those that are whole; then the other is written anew from it. */
 static size_t load(int end, uint8_t *record) {
     uint32_t a = 0, b = 0;
-    int first = reads(places[end][0], &a), second = reads(places[end][1], &b);
+    size_t first = reads(places[end][0], &a), second = reads(places[end][1], &b);
     if (!first && !second) return 0;
     int best = !first || (second && b > a);
-    memcpy(record, places[end][best], NOOSELESS_RECORD_LEN);
-    if (!first || !second || a != b) {
+    size_t length = best ? second : first;
+    memcpy(record, places[end][best], length);
+    if (memcmp(places[end][0], places[end][1], PLACE) != 0) {
         torn++;
-        write_place(places[end][!best], record);
+        write_place(places[end][!best], record, length);
     }
-    return NOOSELESS_RECORD_LEN;
+    return length;
+}
+
+/* Small blocks, which are used up between two cuts, a fresh end's, or any. */
+static uint16_t some_block(void) {
+    uint64_t lot = below(&chance, 4);
+    return (uint16_t)(lot < 2 ? 1 + below(&chance, 4) : lot == 2 ? NOOSELESS_BLOCK : 1 + below(&chance, NOOSELESS_BLOCK_MAX));
+}
+
+/* A person at a box that is off: its record is carried back to version 1, as for entries of version 1, or gets another block. */
+static void service(int end) {
+    uint8_t record[NOOSELESS_RECORD_LEN], other[NOOSELESS_RECORD_LEN], whose;
+    uint32_t number;
+    uint16_t block;
+    size_t length = load(end, record), to = below(&chance, 2) == 0 ? NOOSELESS_OLD_RECORD_LEN : NOOSELESS_RECORD_LEN;
+    if (nooseless_read_record(record, length, &whose, &number, &block) != 0) exit(2);
+    uint8_t refusal = to == NOOSELESS_OLD_RECORD_LEN ? nooseless_carry_record(record, length, other, to)
+                                                     : nooseless_write_record(other, to, whose, number, some_block());
+    if (refusal != 0) exit(2);
+    write_both(end, other, to);
 }
 
 /* ---- Radio: whatever was sent may come at any later time, any number of times, or never; and junk ---- */
 
 static uint8_t air[2][AIR][NOOSELESS_PACKET_LEN]; /* sent by an end */
 static unsigned long flown[2];
+static unsigned long given, came_back; /* the order that was given last; the turn of the controller's last start */
+
+/* needI(J) and offer(J, I): the J names one put, the I one permission, so a number that comes again is of the same order, or of the same run. */
+static void numbered(int end, const uint8_t *packet) {
+    static uint32_t top[2];
+    static unsigned long names[2];
+    uint8_t kind, message[NOOSELESS_MESSAGE_LEN];
+    uint32_t first, second;
+    if (nooseless_read_packet(packet, NOOSELESS_PACKET_LEN, &kind, &first, &second, message) != 0) return;
+    if (kind != (end == CONSOLE ? NOOSELESS_KIND_NEEDI : NOOSELESS_KIND_OFFER)) return;
+    uint32_t number = end == CONSOLE ? first : second;
+    unsigned long of = end == CONSOLE ? given : came_back;
+    if (number < top[end] || (number == top[end] && names[end] != of)) reused++;
+    top[end] = number;
+    names[end] = of;
+}
 
 static void fly(int end, const uint8_t *packet) {
     may_fail();
     memcpy(air[end][flown[end]++ % AIR], packet, NOOSELESS_PACKET_LEN);
+    numbered(end, packet);
     sent(end, packet);
     may_fail();
 }
@@ -160,7 +219,7 @@ struct order {
 };
 
 static struct order *orders;
-static unsigned long given, room, latest, held, came_back;
+static unsigned long room, latest, held;
 static unsigned long asked, doses, oks, losts, twice, astray, unasked, early_ok, after_lost, no_reason;
 
 static unsigned long number_of(const uint8_t *cells) {
@@ -205,8 +264,14 @@ static void answer(uint8_t told, const uint8_t *cells) {
 
 /* ---- What the loops ask of their boxes ---- */
 
-size_t console_load(uint8_t record[NOOSELESS_RECORD_LEN]) { return load(CONSOLE, record); }
-size_t controller_load(uint8_t record[NOOSELESS_RECORD_LEN]) { return load(CONTROLLER, record); }
+static size_t loaded(int end, uint8_t *record) {
+    size_t length = load(end, record);
+    old_starts += length == NOOSELESS_OLD_RECORD_LEN;
+    return length;
+}
+
+size_t console_load(uint8_t record[NOOSELESS_RECORD_LEN]) { return loaded(CONSOLE, record); }
+size_t controller_load(uint8_t record[NOOSELESS_RECORD_LEN]) { return loaded(CONTROLLER, record); }
 void console_keep(const uint8_t record[NOOSELESS_RECORD_LEN]) { keep(CONSOLE, record); }
 void controller_keep(const uint8_t record[NOOSELESS_RECORD_LEN]) { keep(CONTROLLER, record); }
 int console_hear(uint8_t *bytes, int most) { return hear(CONSOLE, bytes, most); }
@@ -219,6 +284,7 @@ void controller_alarm(void) { alarms++; }
 
 int console_order(uint8_t order[NOOSELESS_MESSAGE_LEN]) {
     char text[NOOSELESS_MESSAGE_LEN + 1];
+    if (below(&chance, 4) != 0) return 0; /* so that it is idle at times, and hears what is of an order before */
     if (given + 1 >= room) {
         room = 2 * room + 64;
         orders = realloc(orders, room * sizeof *orders);
@@ -265,12 +331,13 @@ static void goes_down(int end) {
 }
 
 static void comes_back(int end) {
+    if (below(&chance, SERVICE) == 0) service(end);
     uint8_t refusal = end == CONSOLE ? console_start() : controller_start();
     if (refusal != 0) {
         fprintf(stderr, "cuts: a record is refused with %u\n", refusal);
         exit(2);
     }
-    on[end] = 1;
+    on[end] = started[end] = 1;
     if (end == CONTROLLER) came_back = now;
 }
 
@@ -286,11 +353,14 @@ static void turn(int end) {
     rule(!left[end].keep && !left[end].show && !left[end].send);
 }
 
+/* Half of the boxes were made before there were blocks. */
 static void make(int end, uint8_t whose) {
     uint8_t record[NOOSELESS_RECORD_LEN];
-    if (nooseless_write_record(record, sizeof record, whose, (uint32_t)below(&chance, 1u << 20)) != 0) exit(2);
-    with_sum(places[end][0], record);
-    with_sum(places[end][1], record);
+    uint16_t block = below(&chance, 2) == 0 ? 0 : some_block();
+    size_t length = block == 0 ? NOOSELESS_OLD_RECORD_LEN : NOOSELESS_RECORD_LEN;
+    if (nooseless_write_record(record, length, whose, (uint32_t)below(&chance, 1u << 20), block) != 0) exit(2);
+    with_sum(places[end][0], record, length);
+    with_sum(places[end][1], record, length);
 }
 
 int main(int argc, char **argv) {
@@ -306,10 +376,14 @@ int main(int argc, char **argv) {
     printf("%lu turns, %lu cuts of the console, %lu of the controller, %lu between a step and its keeping, %lu starts with a torn record\n", turns,
            cuts[CONSOLE], cuts[CONTROLLER], between, torn);
     printf("%lu orders, %lu doses, %lu OK, %lu lost, %lu junk\n", asked, doses, oks, losts, junk);
+    printf("%lu keepings, %lu of them of a block that was used up, %lu starts from a record of version 1\n", keepings, used_up, old_starts);
     printf("delivered twice %lu, out of order %lu, OK without delivery %lu, delivered after lost %lu\n", twice, astray, early_ok, after_lost);
     printf("delivered or answered unasked %lu, lost with no restart of the controller since the put %lu\n", unasked, no_reason);
-    printf("the rule broken %lu, numbers never given %lu\n", broken, alarms);
+    printf("the rule broken %lu, numbers never given %lu, used twice %lu\n", broken, alarms, reused);
     if (twice + astray + early_ok + after_lost + unasked + no_reason > 0) return 1;
-    if (broken + alarms > 0) return 4;
-    return asked < turns / 100 || oks < turns / 200 || losts < turns / 10000 || between < turns / 10000 || torn < turns / 10000 ? 3 : 0;
+    if (broken + alarms + reused > 0) return 4;
+    return asked < turns / 100 || oks < turns / 200 || losts < turns / 10000 || between < turns / 10000 || torn < turns / 10000 ||
+                   used_up < turns / 10000 || old_starts < turns / 10000
+               ? 3
+               : 0;
 }

@@ -1,6 +1,6 @@
 /*
- * The header's names beside the archive: version, lengths, letters, the byte of a step, and buffers that lie at any address. Prints what is
- * otherwise and ends with 1.
+ * The header's names beside the archive: version, lengths, blocks and number records, letters, the byte of a step, and buffers that lie at any
+ * address. Prints what is otherwise and ends with 1.
  */
 #include "nooseless.h"
 
@@ -34,12 +34,37 @@ static void lengths(void) {
         want((nooseless_bench_fresh(bench, NOOSELESS_BENCH_STATE_LEN - 1 + n, out, NOOSELESS_TABLE_LEN, back, NOOSELESS_TABLE_LEN, 0, 0) == 0) == good,
              "length of a bench's state");
         want((nooseless_bench_fresh(bench, NOOSELESS_BENCH_STATE_LEN, out, t, back, NOOSELESS_TABLE_LEN, 0, 0) == 0) == good, "length of a table");
-        want((nooseless_write_record(record, NOOSELESS_RECORD_LEN - 1 + n, NOOSELESS_CONSOLE, 0) == 0) == good, "length of a record");
+        want((nooseless_write_record(record, NOOSELESS_RECORD_LEN - 1 + n, NOOSELESS_CONSOLE, 0, NOOSELESS_BLOCK) == 0) == good, "length of a record");
+        want((nooseless_write_record(record, NOOSELESS_OLD_RECORD_LEN - 1 + n, NOOSELESS_CONSOLE, 0, 0) == 0) == good, "length of an old record");
         memset(delivered, 0, sizeof delivered);
         want((nooseless_write_packet(packet, NOOSELESS_PACKET_LEN - 1 + n, NOOSELESS_KIND_NEEDI, 1, 0, delivered) == 0) == good, "length of a packet");
         nooseless_write_packet(packet, NOOSELESS_PACKET_LEN, NOOSELESS_KIND_DATA, 1, 0, message);
         want((nooseless_read_packet(packet, NOOSELESS_PACKET_LEN - 1 + n, &kind, &first, &second, delivered) == 0) == good, "length of a packet read");
     }
+}
+
+/* A fresh end's record: reserved is its last used, its block the header's. An end started from a record of either version has its number. */
+static void records(void) {
+    uint8_t old[NOOSELESS_OLD_RECORD_LEN], again[NOOSELESS_RECORD_LEN], end = 0;
+    uint32_t number = 0;
+    uint16_t block = 0;
+    nooseless_controller_fresh(controller, NOOSELESS_CONTROLLER_STATE_LEN, 9);
+    want(nooseless_controller_record(controller, NOOSELESS_CONTROLLER_STATE_LEN, record, NOOSELESS_RECORD_LEN) == 0, "a fresh end's record");
+    want(nooseless_read_record(record, NOOSELESS_RECORD_LEN, &end, &number, &block) == 0 && end == NOOSELESS_CONTROLLER && number == 9 &&
+             block == NOOSELESS_BLOCK,
+         "what a fresh end's record says");
+    want(nooseless_carry_record(record, NOOSELESS_RECORD_LEN, old, sizeof old) == 0, "a record carried to version 1");
+    want(nooseless_read_record(old, sizeof old, &end, &number, &block) == 0 && end == NOOSELESS_CONTROLLER && number == 9 && block == 0,
+         "what a record of version 1 says");
+    want(nooseless_controller_downed(controller, NOOSELESS_CONTROLLER_STATE_LEN, old, sizeof old) == 0 &&
+             nooseless_controller_record(controller, NOOSELESS_CONTROLLER_STATE_LEN, again, sizeof again) == 0 &&
+             memcmp(again, record, NOOSELESS_RECORD_LEN) == 0,
+         "an end started from a record of version 1");
+    want(nooseless_carry_record(old, sizeof old, again, sizeof again) == 0 && memcmp(again, record, NOOSELESS_RECORD_LEN) == 0,
+         "a record carried to version 2");
+    want(nooseless_write_record(record, NOOSELESS_RECORD_LEN, NOOSELESS_CONSOLE, 7, NOOSELESS_BLOCK_MAX) == 0, "the largest block");
+    want(nooseless_write_record(record, NOOSELESS_RECORD_LEN, NOOSELESS_CONSOLE, 7, NOOSELESS_BLOCK_MAX + 1) == NOOSELESS_WRONG_FIELD,
+         "a block above the largest");
 }
 
 /* Each byte: a letter of the header's, of that end's, or no action. A letter that is one is refused for another reason, or not at all. */
@@ -81,7 +106,7 @@ static void at(size_t by) {
     static uint8_t room[8][64];
     uint8_t *c = room[0] + by, *k = room[1] + by, *p = room[2] + by, *q = room[3] + by, *m = room[4] + by, *d = room[5] + by, *r = room[6] + by;
     memcpy(m, message, NOOSELESS_MESSAGE_LEN);
-    want(nooseless_write_record(r, NOOSELESS_RECORD_LEN, NOOSELESS_CONSOLE, 7) == 0, "a record written");
+    want(nooseless_write_record(r, NOOSELESS_RECORD_LEN, NOOSELESS_CONSOLE, 7, 3) == 0, "a record written");
     want(nooseless_console_downed(c, NOOSELESS_CONSOLE_STATE_LEN, r, NOOSELESS_RECORD_LEN) == 0, "a console after power loss");
     want(nooseless_controller_fresh(k, NOOSELESS_CONTROLLER_STATE_LEN, 9) == 0, "a controller that never ran");
 #define STEP(letter) nooseless_console_step(c, NOOSELESS_CONSOLE_STATE_LEN, letter, m, q, NOOSELESS_PACKET_LEN, p, NOOSELESS_PACKET_LEN)
@@ -103,11 +128,17 @@ static void at(size_t by) {
     want(STEP(NOOSELESS_CONSOLE_TAKE) == (NOOSELESS_ANSWER_OK | NOOSELESS_SENT), "S of OK");
     want(STEP_BACK(NOOSELESS_CONTROLLER_TAKE) == NOOSELESS_NOTHING, "R of done");
     want(STEP_BACK(NOOSELESS_SEND_OK) == NOOSELESS_OTHER_MODE, "K when idle");
+    want(STEP(NOOSELESS_PUT) == NOOSELESS_NOTHING, "P of the block's second number");
+    want(STEP(NOOSELESS_SEND_NEEDI) == (NOOSELESS_NOTHING | NOOSELESS_SENT), "the second Q");
+    want(STEP_BACK(NOOSELESS_CONTROLLER_TAKE) == NOOSELESS_NOTHING, "R of needI within the block");
+    want(STEP(NOOSELESS_CONSOLE_DOWN) == NOOSELESS_NOTHING && STEP(NOOSELESS_CONSOLE_BACK) == NOOSELESS_NOTHING, "C and V");
+    want(STEP(NOOSELESS_PUT) == (NOOSELESS_NOTHING | NOOSELESS_KEEP), "P after coming back within the block");
 }
 
 int main(void) {
     want(nooseless_version() == NOOSELESS_VERSION, "the archive is of another version");
     lengths();
+    records();
     letters();
     bytes();
     for (size_t by = 0; by < 16; by++) at(by);

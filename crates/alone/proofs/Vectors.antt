@@ -10,13 +10,15 @@ use Rattle.wire.specs.Number.{bytesOf, value}
 use Rattle.wire.specs.Packet.{isBlank, packetBytes, headOf, headAt, readRefusal, packetRead}
 use Rattle.wire.specs.declared.Head.{Head}
 use Rattle.wire.specs.declared.Head.the-variants.{NeedI, Offer, Data, Ok, Lost, Done}
-use Rattle.rules.specs.Supply.{next-counted}
+use Rattle.rules.specs.Supply.{numbers-rules}
 use Rattle.rules.specs.Letters.{line, letters, among, letter}
 use Rattle.rules.specs.Ends as rules
 use Rattle.numbers.specs.Numbers.{numbersFresh}
+use Rattle.numbers.specs.declared.Numbers.{Numbers}
 use Rattle.ends_console.specs.Fields.{consoleOk, consoleMode, consoleWith, freshConsole, downedConsole}
 use Rattle.ends_controller.specs.Fields.{controllerOk, controllerMode, controllerWith, freshController, downedController}
 use Rattle.ends_console.specs.declared.Mode.the-variants as mode
+use Rattle.ends_controller.specs.declared.Mode.{Mode}
 use Rattle.ends_controller.specs.declared.Mode.the-variants.{Accept, Ack}
 use Rattle.ends.specs.declared.Report.{Report}
 use Rattle.ends.specs.declared.Report.the-variants as report
@@ -28,7 +30,7 @@ use Rattle.alone.specs.ControllerAlone.{ControllerAlone, controllerActs,
 
 -- all that an example computes with
 unfoldable pub opened : Unit {0}
-unfolding consoleAlone consoleOk consoleMode consoleActs consoleLent controllerAlone controllerOk controllerMode controllerActs controllerLent rules.ends next-counted
+unfolding consoleAlone consoleOk consoleMode consoleActs consoleLent controllerAlone controllerOk controllerMode controllerActs controllerLent rules.ends numbers-rules
     packetBytes packetRead readRefusal headAt headOf value bytesOf isBlank isMessage cells filled line letters among letter
 opened = tt
 
@@ -47,17 +49,24 @@ short = replicate 31 7
 
 -- ## The controller
 
--- last used I 3, which is offered
+-- last used I 3, the first of a block
+abbrev at-3 : Numbers
+at-3 = record { used = 3; reserved = 66; block = 64 }
+
+abbrev idle-at-3 : Controller
+idle-at-3 = controllerWith at-3 Mode.Idle true
+
+-- it is offered
 abbrev pub accepting : Controller
-accepting = controllerWith (numbersFresh 3) (Accept (record { 0 = 1 }) (record { 0 = 3 })) true
+accepting = controllerWith at-3 (Accept (record { 0 = 1 }) (record { 0 = 3 })) true
 
 -- the order with I 3 is delivered
 abbrev acking : Controller
-acking = controllerWith (numbersFresh 3) (Ack (record { 0 = 3 })) true
+acking = controllerWith at-3 (Ack (record { 0 = 3 })) true
 
 -- the same, down: nothing is cleared
 abbrev acking-down : Controller
-acking-down = controllerWith (numbersFresh 3) (Ack (record { 0 = 3 })) false
+acking-down = controllerWith at-3 (Ack (record { 0 = 3 })) false
 
 -- nothing to report
 abbrev stays : Bool → List ℕ → Controller → ControllerAlone
@@ -67,7 +76,7 @@ stays sent reply c = record { outcome = record { report = report.Nothing; messag
 abbrev alone : Controller × ℕ × List ℕ × List ℕ → ControllerAlone
 alone a = controllerAlone (a .0) (a .1) (a .2) (a .3)
 
--- R of needI: j and the next I; O: offer(j, i); R of data: delivered, with OK for it; K: OK(last); R of done: last cleared; X; Y
+-- R of needI: j and the next I; O: offer(j, i); R of data: delivered, with OK for it; K: OK(last); R of done: last cleared; X; Y: last used is what was reserved
 each-letter : map alone
     ((freshController (record { 0 = 2 }), 0x52, packet (NeedI (record { 0 = 1 })) zeros, room)
     ∷ (accepting, 0x4F, [], room)
@@ -81,9 +90,9 @@ each-letter : map alone
     ∷ stays true (packet (Offer (record { 0 = 1 }) (record { 0 = 3 })) zeros) accepting
     ∷ record { outcome = record { report = report.Delivered; message = start; sent = true; controller = acking }; reply = packet (Ok (record { 0 = 3 })) zeros }
     ∷ stays true (packet (Ok (record { 0 = 3 })) zeros) acking
-    ∷ stays false room (freshController (record { 0 = 3 }))
+    ∷ stays false room idle-at-3
     ∷ stays false [] acking-down
-    ∷ stays false [] (freshController (record { 0 = 3 }))
+    ∷ stays false [] (freshController (record { 0 = 66 }))
     ∷ [])
 unfolding opened
 each-letter = refl
@@ -118,7 +127,7 @@ unfolding opened
 repeat-dropped = refl
 
 -- done for what is offered: j and i cleared
-done-of-an-offer : takes (Done (record { 0 = 3 })) zeros accepting ≡ stays false room (freshController (record { 0 = 3 }))
+done-of-an-offer : takes (Done (record { 0 = 3 })) zeros accepting ≡ stays false room idle-at-3
 unfolding opened
 done-of-an-offer = refl
 
@@ -128,7 +137,7 @@ unfolding opened
 stray-done = refl
 
 abbrev pub ill-formed : Controller
-ill-formed = record { numbers = numbersFresh 3; j = record { 0 = 1 }; i = record { 0 = 0 }; last = record { 0 = 0 }; up = true }
+ill-formed = record { numbers = at-3; j = record { 0 = 1 }; i = record { 0 = 0 }; last = record { 0 = 0 }; up = true }
 
 abbrev tells : Controller × ℕ × List ℕ × List ℕ → Report
 tells a = alone a .outcome .report
@@ -142,7 +151,7 @@ refused : map tells
     ∷ (accepting, 0x52, [], room)
     ∷ (accepting, 0x52, room, room)
     ∷ (accepting, 0x52, packet (Offer (record { 0 = 1 }) (record { 0 = 3 })) zeros, room)
-    ∷ (downedController (record { 0 = 3 }), 0x52, packet (NeedI (record { 0 = 1 })) zeros, room)
+    ∷ (downedController (numbersFresh 3), 0x52, packet (NeedI (record { 0 = 1 })) zeros, room)
     ∷ (accepting, 0x59, [], [])
     ∷ (accepting, 0x4B, [], room)
     ∷ (accepting, 0x52, packet (Data (record { 0 = 5 })) start, room)
@@ -153,17 +162,24 @@ refused = refl
 
 -- ## The console
 
--- last used J 1, which is asked for
+-- last used J 1, the first of a block
+abbrev at-1 : Numbers
+at-1 = record { used = 1; reserved = 64; block = 64 }
+
+abbrev idle-at-1 : Console
+idle-at-1 = consoleWith at-1 mode.Idle true spaces
+
+-- it is asked for
 abbrev needing : Console
-needing = consoleWith (numbersFresh 1) (mode.NeedI (record { 0 = 1 })) true start
+needing = consoleWith at-1 (mode.NeedI (record { 0 = 1 })) true start
 
 -- the order with I 3 is being sent
 abbrev pub sending : Console
-sending = consoleWith (numbersFresh 1) (mode.Send (record { 0 = 3 })) true start
+sending = consoleWith at-1 (mode.Send (record { 0 = 3 })) true start
 
 -- the same, down: nothing is cleared
 abbrev sending-down : Console
-sending-down = consoleWith (numbersFresh 1) (mode.Send (record { 0 = 3 })) false start
+sending-down = consoleWith at-1 (mode.Send (record { 0 = 3 })) false start
 
 -- nothing to report
 abbrev console-stays : Bool → List ℕ → Console → ConsoleAlone
@@ -173,7 +189,7 @@ console-stays sent reply c = record { outcome = record { report = report.Nothing
 abbrev console-alone : Console × ℕ × List ℕ × List ℕ × List ℕ → ConsoleAlone
 console-alone a = consoleAlone (a .0) (a .1) (a .2) (a .3) (a .4)
 
--- P: held, with the next J; Q: needI(j); S of an offer: last; D: data(last, message); S of OK: the answer, with done for it; C; V
+-- P: held, with the next J; Q: needI(j); S of an offer: last; D: data(last, message); S of OK: the answer, with done for it; C; V: last used is what was reserved
 console-each-letter : map console-alone
     ((freshConsole (record { 0 = 0 }), 0x50, start, [], [])
     ∷ (needing, 0x51, spaces, [], room)
@@ -187,9 +203,9 @@ console-each-letter : map console-alone
     ∷ console-stays true (packet (NeedI (record { 0 = 1 })) zeros) needing
     ∷ console-stays false room sending
     ∷ console-stays true (packet (Data (record { 0 = 3 })) start) sending
-    ∷ record { outcome = record { report = report.Ok; sent = true; console = freshConsole (record { 0 = 1 }) }; reply = packet (Done (record { 0 = 3 })) zeros }
+    ∷ record { outcome = record { report = report.Ok; sent = true; console = idle-at-1 }; reply = packet (Done (record { 0 = 3 })) zeros }
     ∷ console-stays false [] sending-down
-    ∷ console-stays false [] (freshConsole (record { 0 = 1 }))
+    ∷ console-stays false [] (freshConsole (record { 0 = 64 }))
     ∷ [])
 unfolding opened
 console-each-letter = refl
@@ -216,7 +232,7 @@ unfolding opened
 offer-being-sent = refl
 
 -- lost for the order being sent: the answer, message and last cleared, no reply
-lost-answered : hears (Lost (record { 0 = 3 })) sending ≡ record { outcome = record { report = report.Lost; sent = false; console = freshConsole (record { 0 = 1 }) }; reply = room }
+lost-answered : hears (Lost (record { 0 = 3 })) sending ≡ record { outcome = record { report = report.Lost; sent = false; console = idle-at-1 }; reply = room }
 unfolding opened
 lost-answered = refl
 
@@ -239,8 +255,8 @@ console-refused : map console-tells
     ∷ (freshConsole (record { 0 = 0 }), 0x51, spaces, [], short)
     ∷ (sending, 0x53, spaces, packet (Offer (record { 0 = 1 }) (record { 0 = 3 })) zeros, short)
     ∷ (sending, 0x53, spaces, packet (Data (record { 0 = 3 })) start, room)
-    ∷ (downedConsole (record { 0 = 0 }), 0x50, replicate 16 0x7F, [], [])
-    ∷ (downedConsole (record { 0 = 0 }), 0x50, spaces, [], [])
+    ∷ (downedConsole (numbersFresh 0), 0x50, replicate 16 0x7F, [], [])
+    ∷ (downedConsole (numbersFresh 0), 0x50, spaces, [], [])
     ∷ (freshConsole (record { 0 = 0 }), 0x56, [], [], [])
     ∷ (freshConsole (record { 0 = 0 }), 0x51, [], [], room)
     ∷ (sending, 0x50, spaces, [], [])
@@ -249,3 +265,38 @@ console-refused : map console-tells
     ≡ map report.Refused (1 ∷ 12 ∷ 12 ∷ 15 ∷ 11 ∷ 4 ∷ 5 ∷ 6 ∷ 6 ∷ 8 ∷ [])
 unfolding opened
 console-refused = refl
+
+-- ## Numbers in blocks: last used, reserved, block
+
+abbrev in-block : ℕ → ℕ → ℕ → Numbers
+in-block used reserved block = record { used = used; reserved = reserved; block = block }
+
+abbrev console-at : Numbers → Bool → Console
+console-at numbers up = consoleWith numbers mode.Idle up spaces
+
+abbrev after-P : List ℕ → Numbers → Numbers
+after-P m n = consoleAlone (console-at n true) 0x50 m [] [] .outcome .console .numbers
+
+-- the first of a block, one within it, its last, the first of the next; a block that stops at the largest number
+puts-in-blocks : map (after-P spaces) (in-block 0 0 64 ∷ in-block 1 64 64 ∷ in-block 63 64 64 ∷ in-block 64 64 64 ∷ in-block 4294967292 4294967292 1024 ∷ [])
+    ≡ in-block 1 64 64 ∷ in-block 2 64 64 ∷ in-block 64 64 64 ∷ in-block 65 128 64 ∷ in-block 4294967293 4294967295 1024 ∷ []
+unfolding opened
+puts-in-blocks = refl
+
+-- a put that is refused leaves what is reserved
+refused-in-a-block : after-P (replicate 16 0x7F) (in-block 64 64 64) ≡ in-block 64 64 64
+unfolding opened
+refused-in-a-block = refl
+
+-- V sets last used to reserved; where that is the largest number, the numbers are spent
+after-V : map (λ n. consoleAlone (console-at n false) 0x56 spaces [] [] .outcome .console) (in-block 3 64 64 ∷ in-block 4294967286 4294967295 64 ∷ [])
+    ≡ console-at (in-block 64 64 64) true ∷ freshConsole (record { 0 = 4294967295 }) ∷ []
+unfolding opened
+after-V = refl
+
+-- a block of 0 or 1,025, and last used above reserved, are 2; blocks of 1 and 1,024 are good; last used below the largest is not spent
+ill-numbers : map (λ n. consoleAlone (console-at n true) 0x50 spaces [] [] .outcome .report)
+    (in-block 3 64 0 ∷ in-block 3 64 1025 ∷ in-block 65 64 64 ∷ in-block 3 64 1 ∷ in-block 3 64 1024 ∷ in-block 4294967286 4294967295 64 ∷ [])
+    ≡ report.Refused 2 ∷ report.Refused 2 ∷ report.Refused 2 ∷ report.Nothing ∷ report.Nothing ∷ report.Nothing ∷ []
+unfolding opened
+ill-numbers = refl

@@ -40,7 +40,7 @@ no-ok e = let z : _≡_ {A = ℕ} 0 1 = cc in omega (arith, z)
 -- ## A console: P of 16 spaces, fresh
 
 abbrev putting : ConsoleOutcome
-putting = record { report = report.Nothing; sent = false; console = consoleWith (numbersFresh 1) (NeedI (record { 0 = 1 })) true spaces }
+putting = record { report = report.Nothing; sent = false; console = consoleWith (record { used = 1; reserved = 64; block = 64 }) (NeedI (record { 0 = 1 })) true spaces }
 
 put-told : (packet reply : List ℕ) → consoleAlone (freshConsole (record { 0 = 0 })) 0x50 spaces packet reply ≡ record { outcome = putting; reply = reply }
 unfolding opened
@@ -65,7 +65,7 @@ module _ (κs : Lfts 3) (a : Dens κs console-step-kinds.ps) (x : ConsoleOutcome
 -- ## A controller: X, fresh
 
 abbrev down : ControllerOutcome
-down = record { report = report.Nothing; message = spaces; sent = false; controller = downedController (record { 0 = 0 }) }
+down = record { report = report.Nothing; message = spaces; sent = false; controller = downedController (numbersFresh 0) }
 
 down-told : (packet reply : List ℕ) → controllerAlone (freshController (record { 0 = 0 })) 0x58 packet reply ≡ record { outcome = down; reply = reply }
 unfolding opened

@@ -11,7 +11,7 @@ use lib.ListN.{length, getD, drop, replicate}
 use Rattle.ground.specs.Cell.{cells, isMessage, spaces}
 use Rattle.ground.specs.Choice.{if_then_else_}
 use Rattle.ground.specs.Every.{filled}
-use Rattle.rules.specs.Supply.{numbering, Numbers}
+use Rattle.rules.specs.Supply.{numbering, Numbers, fresh-numbers}
 use Rattle.rules.specs.Letters.{P-put, line, letters, among, letter}
 use Rattle.rules.specs.Ends as ends
 use Rattle.rules.specs.Bench as rules
@@ -45,7 +45,7 @@ abbrev putting : Action
 putting = record { letter = 0x50; place = 0; copies = 0; message = spaces }
 
 abbrev fresh : rules.Bench Numbers (List ℕ)
-fresh = rules.fresh 0 0
+fresh = rules.fresh (fresh-numbers 0) (fresh-numbers 0)
 
 abbrev asked : rules.Action (List ℕ)
 asked = asRules P-put putting
@@ -54,7 +54,7 @@ abbrev after : rules.Bench Numbers (List ℕ)
 after = rules.step numbering isMessage fresh asked .after
 
 fresh-ok : Well-formed numbering isMessage fresh
-fresh-ok = fresh-well-formed numbering isMessage 0 0 refl refl
+fresh-ok = fresh-well-formed numbering isMessage (fresh-numbers 0) (fresh-numbers 0) refl refl
 
 after-ok : Well-formed numbering isMessage after
 after-ok = step-well-formed numbering numbering-lawful isMessage fresh asked fresh-ok

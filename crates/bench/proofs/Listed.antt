@@ -14,7 +14,7 @@ use Rattle.ground.specs.Cell.{isMessage}
 use Rattle.ground.specs.Choice.{if_then_else_}
 use Rattle.ground.proofs.Tests.{by-test}
 use Rattle.ground.specs.Bytes.{field}
-use Rattle.rules.specs.Supply.{numbering, Numbers}
+use Rattle.rules.specs.Supply.{numbering, Numbers, fresh-numbers}
 use Rattle.rules.specs.Letters.{Letter, line, letters, among, letter}
 use Rattle.rules.specs.Bench as rules
 use Rattle.rules.specs.Log.{Event}
@@ -150,7 +150,7 @@ module _ (input before : List ℕ) where
   all = linesOf 1 records told
 
   fresh-ok : Well-formed numbering isMessage (freshRules j₀ i₀)
-  fresh-ok = fresh-well-formed numbering isMessage 0 0 refl refl
+  fresh-ok = fresh-well-formed numbering isMessage (fresh-numbers 0) (fresh-numbers 0) refl refl
 
   lines-shown : (rest : List ℕ) → (linesShow records (all ++ rest) ≡ allShown (actionsIn input before) told) × (length all ≡ 27 * length records)
   unfolding freshOutcomes benchFresh benchTold if_then_else_
@@ -183,5 +183,5 @@ module _ (κs : Lfts 2) (a : Dens κs run-kinds.ps) (x : ℕ) (s : AtExit (ended
   list-right = ran-right (now (a .0)) (now (a .1 .0)) meets
 
   -- in plain words
-  pub list-plain : Plain (written (rowsOf [] (rules.fresh 0 0) (actionsIn (now (a .0)) (now (a .1 .0)))) [])
+  pub list-plain : Plain (written (rowsOf [] (rules.fresh (fresh-numbers 0) (fresh-numbers 0)) (actionsIn (now (a .0)) (now (a .1 .0)))) [])
   list-plain = right-plain _ (list-right .orders .right)

@@ -5,10 +5,11 @@ use mathlib.Core.Bool.{Bool, true, false, _&&_}
 use mathlib.Core.List.{List}
 use native.Mathlib.Omega.{arith}
 use lib.Dec.{leb}
-use borrow.Author.Tests.{le-leb, lt-leb}
+use borrow.Author.Tests.{leb-true, leb-false, le-leb, lt-leb, le-ltb}
 use Rattle.ground.specs.Cell.{isMessage, spaces}
 use Rattle.ground.specs.Choice.{if_then_else_}
 use Rattle.ground.specs.First.{refusal, first, applies}
+use Rattle.ground.proofs.Tests.{by-test}
 use Rattle.rules.specs.Offered.{Offer, offered}
 use Rattle.rules.specs.Ends as ends
 use Rattle.rules.specs.Bench as rules
@@ -17,6 +18,7 @@ use Rattle.letters.specs.declared.Takes.{Takes}
 use Rattle.letters.specs.declared.Takes.the-variants as takes
 use Rattle.letters.specs.declared.Line.{Line}
 use Rattle.numbers.specs.declared.Move.the-variants.{Stay}
+use Rattle.ends.specs.declared.Report.{Report}
 use Rattle.ends.specs.declared.Report.the-variants.{Nothing, Refused}
 use Rattle.channels.proofs.Channel.{packets-length}
 use Rattle.channels.proofs.Packets.{to-controller-coded, to-console-coded}
@@ -28,6 +30,23 @@ use Rattle.bench.specs.declared.modes.Offered.{Offered}
 use Rattle.bench.specs.declared.modes.Told.{Told}
 use Rattle.bench.proofs.RefusedByModes.{absent-is, out-held, back-held, B, end-number, three, nine, stages, refused-so}
 use Rattle.bench.proofs.Tables.{left, held, taken-holds}
+
+-- ## The pieces
+
+pub report-absent : (n p : ℕ) → n ≤ p → _≡_ {A = Report} (Refused 3) (if leb n p then Refused 3 else Nothing)
+unfolding if_then_else_
+report-absent n p h = rw (le-leb n p h)
+
+pub report-lost : (n p : ℕ) → p < n → _≡_ {A = Report} Nothing (if leb n p then Refused 3 else Nothing)
+unfolding if_then_else_
+report-lost n p h = rw (lt-leb n p h)
+
+-- what a packet lost leaves, with a report and two counts
+abbrev lost : Modes → Report → ℕ → ℕ → Told
+lost b p m n = record { report = p; message = spaces; console = Stay; controller = Stay; after = record { console = b .console; controller = b .controller; sent = m; returned = n } }
+
+pub lost-with : (b : Modes) {p p′ : Report} {m m′ n n′ : ℕ} {r : Told} → r ≡ lost b p m n → p ≡ p′ → m ≡ m′ → n ≡ n′ → r ≡ lost b p′ m′ n′
+lost-with b e f g h = e ∙ rw (f, g, h)
 
 module _ (b : Modes) (o : Offered) (out back : List ℕ) (line : Line) (a : Action) (k : Known b out back) (w : OnLosing b o out back line a) where
   abbrev bench : rules.Bench Offer (List ℕ)
@@ -69,13 +88,13 @@ module _ (b : Modes) (o : Offered) (out back : List ℕ) (line : Line) (a : Acti
 
   -- ## The ways
 
-  pub out-absent : {r : Told} → line .takes ≡ takes.ToController → b .sent ≤ a .place → r ≡ record { report = Refused 3; message = spaces; console = Stay; controller = Stay; after = b } → toldAs r o out back ≡ modesStep b o out back line a
+  out-absent : {r : Told} → line .takes ≡ takes.ToController → b .sent ≤ a .place → r ≡ record { report = Refused 3; message = spaces; console = Stay; controller = Stay; after = b } → toldAs r o out back ≡ modesStep b o out back line a
   out-absent e h q = absent-so (out-three e ∙ le-leb (b .sent) (a .place) h) q
 
-  pub back-absent : {r : Told} → line .takes ≡ takes.ToConsole → b .returned ≤ a .place → r ≡ record { report = Refused 3; message = spaces; console = Stay; controller = Stay; after = b } → toldAs r o out back ≡ modesStep b o out back line a
+  back-absent : {r : Told} → line .takes ≡ takes.ToConsole → b .returned ≤ a .place → r ≡ record { report = Refused 3; message = spaces; console = Stay; controller = Stay; after = b } → toldAs r o out back ≡ modesStep b o out back line a
   back-absent e h q = absent-so (back-three e ∙ le-leb (b .returned) (a .place) h) q
 
-  pub out-lost : {n : ℕ} {out′ : List ℕ} {r : Told} → line .takes ≡ takes.ToController → a .place < b .sent
+  out-lost : {n : ℕ} {out′ : List ℕ} {r : Told} → line .takes ≡ takes.ToController → a .place < b .sent
       → (n ≡ countTaken true (b .sent) (a .place)) × (out′ ≡ tableTaken true out (b .sent) (a .place))
       → r ≡ record { report = Nothing; message = spaces; console = Stay; controller = Stay; after = record { console = b .console; controller = b .controller; sent = n; returned = b .returned } }
       → toldAs r o out′ back ≡ modesStep b o out back line a
@@ -93,7 +112,7 @@ module _ (b : Modes) (o : Offered) (out back : List ℕ) (line : Line) (a : Acti
       })
       ∙ ap shownOf (sym (step-is e (out-three e ∙ lt-leb (b .sent) (a .place) h)))
 
-  pub back-lost : {n : ℕ} {back′ : List ℕ} {r : Told} → line .takes ≡ takes.ToConsole → a .place < b .returned
+  back-lost : {n : ℕ} {back′ : List ℕ} {r : Told} → line .takes ≡ takes.ToConsole → a .place < b .returned
       → (n ≡ countTaken true (b .returned) (a .place)) × (back′ ≡ tableTaken true back (b .returned) (a .place))
       → r ≡ record { report = Nothing; message = spaces; console = Stay; controller = Stay; after = record { console = b .console; controller = b .controller; sent = b .sent; returned = n } }
       → toldAs r o out back′ ≡ modesStep b o out back line a
@@ -111,9 +130,33 @@ module _ (b : Modes) (o : Offered) (out back : List ℕ) (line : Line) (a : Acti
       })
       ∙ ap shownOf (sym (step-is e (back-three e ∙ lt-leb (b .returned) (a .place) h)))
 
-  -- no letter that asks no end takes nothing
-  pub takes-nothing : {r : Told} → line .takes ≡ takes.Nothing → r ≡ record { report = Nothing; message = spaces; console = Stay; controller = Stay; after = record { console = b .console; controller = b .controller; sent = b .sent; returned = b .returned } }
-      → toldAs r o out back ≡ modesStep b o out back line a
-  takes-nothing e q = absurd (subst TakesOne e (w .takes-one))
+  -- absent or lost, by one way
+  pub out-loses : {out′ : List ℕ} {r : Told} → line .takes ≡ takes.ToController
+      → (r ≡ lost b (if leb (b .sent) (a .place) then Refused 3 else Nothing) (countTaken true (b .sent) (a .place)) (b .returned)) × (out′ ≡ tableTaken true out (b .sent) (a .place))
+      → toldAs r o out′ back ≡ modesStep b o out back line a
+  unfolding countTaken tableTaken if_then_else_
+  out-loses {r = r} e q =
+      by-test (leb (b .sent) (a .place))
+      (λ t.
+      let h = leb-true (b .sent) (a .place) t in
+      let u = le-ltb (a .place) (b .sent) h in
+      ap (λ (x : List ℕ). toldAs r o x back) (q .1 ∙ rw u) ∙ out-absent e h (q .0 ∙ rw (t, u)))
+      (λ f. out-lost e (leb-false (b .sent) (a .place) f) (refl, q .1) (q .0 ∙ rw f))
 
-pub ruleset losings = (out-absent, back-absent, out-lost, back-lost, takes-nothing)
+  pub back-loses : {back′ : List ℕ} {r : Told} → line .takes ≡ takes.ToConsole
+      → (r ≡ lost b (if leb (b .returned) (a .place) then Refused 3 else Nothing) (b .sent) (countTaken true (b .returned) (a .place))) × (back′ ≡ tableTaken true back (b .returned) (a .place))
+      → toldAs r o out back′ ≡ modesStep b o out back line a
+  unfolding countTaken tableTaken if_then_else_
+  back-loses {r = r} e q =
+      by-test (leb (b .returned) (a .place))
+      (λ t.
+      let h = leb-true (b .returned) (a .place) t in
+      let u = le-ltb (a .place) (b .returned) h in
+      ap (λ (x : List ℕ). toldAs r o out x) (q .1 ∙ rw u) ∙ back-absent e h (q .0 ∙ rw (t, u)))
+      (λ f. back-lost e (leb-false (b .returned) (a .place) f) (refl, q .1) (q .0 ∙ rw f))
+
+  -- no letter that asks no end takes nothing
+  pub takes-nothing : (back′ : List ℕ) (r : Told) → line .takes ≡ takes.Nothing → toldAs r o out back′ ≡ modesStep b o out back line a
+  takes-nothing back′ r e = absurd (subst TakesOne e (w .takes-one))
+
+pub ruleset losings = (out-loses, back-loses, takes-nothing)

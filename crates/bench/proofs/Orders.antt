@@ -4,14 +4,13 @@ use mathlib.Core.Path.{_≡_, refl, sym, ap, ap₂, subst, _∙_}
 use mathlib.Core.Bool.{true}
 use mathlib.Core.Option.{Option, none, some, Option·map}
 use mathlib.Core.List.{List, [], _∷_, map}
-use native.Mathlib.Omega.{arith}
 use lib.ListN.{length}
-use borrow.Author.Tests.{eq-eqb, le-leb}
+use borrow.Author.Tests.{eq-eqb}
 use Rattle.ground.specs.Cell.{isMessage}
 use Rattle.ground.specs.Choice.{if_then_else_}
 use Rattle.wire.specs.declared.I.{I}
 use Rattle.wire.specs.declared.J.{J}
-use Rattle.rules.specs.Supply.{Numbers, numbering, largest}
+use Rattle.rules.specs.Supply.{Numbers, numbering, fresh-numbers}
 use Rattle.rules.specs.Letters.{Letter, line, letter}
 use Rattle.rules.proofs.Letters.{letter-of}
 use Rattle.ends.specs.declared.Report.{Report}
@@ -24,7 +23,9 @@ use Rattle.rules.proofs.Plain.{right-plain}
 use Rattle.rules.specs.Demand3.{write, labelled-step, row-of, written, unnumbered, shown, held-label}
 use Rattle.rules.specs.Demand3 as protocol
 use Rattle.rules.specs.WellFormed.{Well-formed}
-use Rattle.rules.proofs.Demand3.{bare, row-shown, bare-step, demand3-messages}
+use Rattle.rules.proofs.Demand3.{bare, row-shown, bare-step}
+use Rattle.rules.proofs.Blocks.{demand3-blocks}
+use Rattle.numbers.proofs.Range.{fresh-sound}
 use Rattle.rules.proofs.Supply.{numbering-lawful}
 use Rattle.rules.proofs.WellFormed.{step-well-formed, fresh-well-formed}
 use Rattle.ends.specs.AsRules.{reportBack, delivered}
@@ -131,21 +132,21 @@ same-shows past b (a ∷ l) w = one-shows past b a l w (letter (a .letter)) refl
 
 module _ (j : J) (i : I) (out₀ back₀ : List ℕ) (p : j .0 < 2 ^ 32) (q : i .0 < 2 ^ 32) (m : length out₀ ≡ 2048) (n : length back₀ ≡ 2048) (l : List Action) where
   abbrev b : Labels
-  b = rules.fresh (j .0) (i .0)
+  b = rules.fresh (fresh-numbers (j .0)) (fresh-numbers (i .0))
 
   fresh-is : benchFresh j i out₀ back₀ ≡ benchTold (record { report = ends.nothing; after = freshRules j i })
   unfolding benchFresh if_then_else_
   fresh-is = rw (eq-eqb (length out₀) 2048 m, eq-eqb (length back₀) 2048 n)
 
   fresh-ok : Well-formed numbering isMessage (freshRules j i)
-  fresh-ok = fresh-well-formed numbering isMessage (j .0) (i .0) (le-leb (j .0) largest (omega (arith, p))) (le-leb (i .0) largest (omega (arith, q)))
+  fresh-ok = fresh-well-formed numbering isMessage (fresh-numbers (j .0)) (fresh-numbers (i .0)) (fresh-sound (j .0) p) (fresh-sound (i .0) q)
 
   -- the step's deliveries and answers are as demand 3 says
   pub orders-right : OrdersRight j i out₀ back₀ l
   unfolding freshOutcomes benchTold rules.fresh
   orders-right =
       record {
-        right = subst Right (sym (same-log [] b l)) (demand3-messages (j .0) (i .0) (actionsIn l) .right);
+        right = subst Right (sym (same-log [] b l)) (demand3-blocks isMessage (j .0) (i .0) (actionsIn l) .right);
         own = same-shows [] b l fresh-ok ∙ ap (λ (r : Result). allShown l (outcomes (r .outcome .bench) (r .out) (r .back) l)) (sym fresh-is);
       }
 

@@ -11,7 +11,7 @@ use borrow.Author.Tests.{lt-ltb, le-ltb, ltb-true, ltb-false}
 use Rattle.ground.specs.Choice.{if_then_else_}
 use Rattle.ground.proofs.Tests.{by-test}
 use Rattle.ground.specs.Cell.{isMessage}
-use Rattle.rules.specs.Supply.{numbering}
+use Rattle.rules.specs.Supply.{numbering, fresh-numbers}
 use Rattle.rules.specs.Bench as rules
 use Rattle.rules.proofs.WellFormed.{fresh-well-formed}
 use Rattle.listing.specs.Record.{recordEnd}
@@ -181,7 +181,7 @@ pub starts-known : {b : Loaded} (out back : List ℕ) → b ≡ started → out 
 unfolding loadedMeans packets rules.fresh
 starts-known out back e f g =
     subst (λ (x : Loaded). Well x out back) (sym e)
-    (record { well-formed = fresh-well-formed numbering isMessage 0 0 refl refl; out-holds = f ∙ sym (channel-none to-controller-coded); back-holds = g ∙ sym (channel-none to-console-coded) })
+    (record { well-formed = fresh-well-formed numbering isMessage (fresh-numbers 0) (fresh-numbers 0) refl refl; out-holds = f ∙ sym (channel-none to-controller-coded); back-holds = g ∙ sym (channel-none to-console-coded) })
 
 pub starts-run : (b : Loaded) (out back input before after : List ℕ) {n : ℕ} → b ≡ started → out ≡ replicate 2048 0 → back ≡ replicate 2048 0
     → record { number = n; output = after } ≡ atFront (linesOn b out back input (length before)) before → record { number = n; output = after } ≡ listRun input before

@@ -1,16 +1,17 @@
 -- The starred checks of the bench's own step: from the bench of each line on, it tells and leaves what the line says.
-use Prim.Native.Nat.{ℕ}
+use Prim.Native.Nat.{ℕ, _≤_}
 use mathlib.Core.Path.{_≡_, refl, ap, ap₂, _∙_}
 use mathlib.Core.Bool.{true}
 use mathlib.Core.List.{List, [], _∷_, map}
 use native.Mathlib.Omega.{arith}
 use Rattle.ground.specs.Cell.{cells, isMessage}
-use Rattle.rules.specs.Supply.{numbering}
+use Rattle.rules.specs.Supply.{numbering, largest, fresh-numbers}
 use Rattle.rules.specs.Bench as rules
 use Rattle.rules.specs.Ends.{ConsoleMode, ControllerMode, order}
 use Rattle.rules.specs.Lists.{All}
 use Rattle.rules.specs.Starred.{Check, a, played, starred}
 use Rattle.rules.specs.WellFormed.{Well-formed}
+use Rattle.rules.proofs.Supply.{fresh-sound}
 use Rattle.rules.proofs.Starred.{starred-hold}
 use Rattle.rules.proofs.WellFormed.{fresh-well-formed}
 use Rattle.ends.specs.declared.Report.{Report}
@@ -44,11 +45,11 @@ each : (cs : List Check) → All Starts cs → map seen cs ≡ map says (map pla
 each [] w = refl
 each (c ∷ cs) w = ap₂ (λ (x : Seen) (l : List Seen). x ∷ l) (one c (w .0)) (each cs (w .1))
 
-ready : (j i : ℕ) → numbering .sound j ≡ true → numbering .sound i ≡ true → Well-formed numbering isMessage (rules.fresh j i)
-ready j i p q = fresh-well-formed numbering isMessage j i p q
+ready : (j i : ℕ) → j ≤ largest → i ≤ largest → Well-formed numbering isMessage (rules.fresh (fresh-numbers j) (fresh-numbers i))
+ready j i p q = fresh-well-formed numbering isMessage (fresh-numbers j) (fresh-numbers i) (fresh-sound j p) (fresh-sound i q)
 
--- last used I 3, and data with I 5 on its way
-stray : Well-formed numbering isMessage (record { console = record { numbers = 0; mode = ConsoleMode.idle; up = true }; controller = record { numbers = 3; mode = ControllerMode.idle; up = true }; toController = order 5 a ∷ []; toConsole = [] })
+-- last used I 3, more reserved, and data with I 5 on its way
+stray : Well-formed numbering isMessage (record { console = record { numbers = fresh-numbers 0; mode = ConsoleMode.idle; up = true }; controller = record { numbers = record { last = 3; reserved = 64; block = 64 }; mode = ControllerMode.idle; up = true }; toController = order 5 a ∷ []; toConsole = [] })
 unfolding isMessage cells
 stray =
     record {
@@ -64,8 +65,8 @@ stray =
 started : All Starts starred
 unfolding starred
 started =
-    let new = ready 0 0 refl refl in
-    (new, (ready 4_294_967_294 0 refl refl, (ready 4_294_967_295 0 refl refl, (ready 0 4_294_967_295 refl refl, (new, (new, (new, (new, (new, (new, (new, (new, (stray, tt)))))))))))))
+    let new = ready 0 0 (omega arith) (omega arith) in
+    (new, (ready 4_294_967_294 0 (omega arith) (omega arith), (ready 4_294_967_295 0 (omega arith) (omega arith), (ready 0 4_294_967_295 (omega arith) (omega arith), (new, (new, (new, (new, (new, (new, (new, (new, (stray, tt)))))))))))))
 
 pub starred-of-the-step : map seen starred ≡ map says starred
 starred-of-the-step = each starred started ∙ ap (map says) starred-hold

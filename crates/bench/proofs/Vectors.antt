@@ -12,9 +12,13 @@ use Rattle.wire.specs.Packet.{isBlank, packetBytes, headOf, headAt, readRefusal
 use Rattle.rules.specs.Letters.{letters, among, letter}
 use Rattle.rules.specs.Ends.{ToController, needI, order, done, ToConsole, offer, ok}
 use Rattle.rules.specs.Bench as rules
+use Rattle.rules.specs.Supply.{numbers-rules}
+use Rattle.numbers.specs.Numbers.{numbersFresh}
 use Rattle.ends_console.specs.Fields.{consoleOk, consoleMode, consoleWith, freshConsole, downedConsole}
-use Rattle.ends_controller.specs.Fields.{controllerOk, controllerMode, freshController}
+use Rattle.ends_controller.specs.Fields.{controllerOk, controllerMode, controllerWith, freshController}
+use Rattle.ends_console.specs.declared.Mode.the-variants as console-mode
 use Rattle.ends_console.specs.declared.Mode.the-variants.{Send}
+use Rattle.ends_controller.specs.declared.Mode.the-variants as controller-mode
 use Rattle.ends.specs.declared.Report.{Report}
 use Rattle.ends.specs.declared.Report.the-variants as report
 use Rattle.ends_console.specs.declared.fields.Console.{Console}
@@ -30,7 +34,7 @@ use Rattle.bench.specs.declared.Bench.{Bench}
 unfoldable pub computes : Unit {0}
 unfolding benchStep benchFresh benchRefused benchTold benchBack benchMeans benchOk consoleOk consoleMode controllerOk controllerMode tableOk
     placesOk packets channel laid toControllerBytes toControllerRead toConsoleBytes toConsoleRead packetBytes packetRead readRefusal headAt headOf
-    value bytesOf isBlank isMessage cells filled letters among letter rules.rules if_then_else_
+    value bytesOf isBlank isMessage cells filled letters among letter rules.rules numbers-rules if_then_else_
 computes = tt
 
 -- ## Benches and actions
@@ -91,13 +95,13 @@ unfolding computes
 tables-ill = refl
 
 abbrev holds : List ℕ → ℕ → ℕ → Console
-holds m j last = record { numbers = record { used = 3 }; held = true; message = m; j = record { 0 = j }; last = record { 0 = last }; up = true }
+holds m j last = record { numbers = record { used = 3; reserved = 66; block = 64 }; held = true; message = m; j = record { 0 = j }; last = record { 0 = last }; up = true }
 
 abbrev holds-none : List ℕ → ℕ → ℕ → Console
-holds-none m j last = record { numbers = record { used = 3 }; held = false; message = m; j = record { 0 = j }; last = record { 0 = last }; up = true }
+holds-none m j last = record { numbers = record { used = 3; reserved = 66; block = 64 }; held = false; message = m; j = record { 0 = j }; last = record { 0 = last }; up = true }
 
 abbrev has : ℕ → ℕ → ℕ → Controller
-has j i last = record { numbers = record { used = 3 }; j = record { 0 = j }; i = record { 0 = i }; last = record { 0 = last }; up = true }
+has j i last = record { numbers = record { used = 3; reserved = 66; block = 64 }; j = record { 0 = j }; i = record { 0 = i }; last = record { 0 = last }; up = true }
 
 -- a message with 0x7F, both numbers, none, j above last used; none held, and a message, j or last; j or i alone, i and last, each above last used
 ends-ill : map (λ (e : Console × Controller). tells (meets (e .0) (e .1) 0 0 clear clear))
@@ -118,19 +122,39 @@ ends-ill : map (λ (e : Console × Controller). tells (meets (e .0) (e .1) 0 0 c
 unfolding computes
 ends-ill = refl
 
+abbrev idle-with : ℕ → ℕ → ℕ → Console
+idle-with used reserved block = consoleWith (record { used = used; reserved = reserved; block = block }) console-mode.Idle true spaces
+
+abbrev free-with : ℕ → ℕ → ℕ → Controller
+free-with used reserved block = controllerWith (record { used = used; reserved = reserved; block = block }) controller-mode.Idle true
+
+-- a block of 0 or 1,025, last used above reserved; blocks of 1 and 1,024 are good
+numbers-ill : map (λ (e : Console × Controller). tells (meets (e .0) (e .1) 0 0 clear clear))
+    ((idle-with 3 64 0, free)
+    ∷ (idle-with 3 64 1025, free)
+    ∷ (idle-with 65 64 64, free)
+    ∷ (idle, free-with 3 64 0)
+    ∷ (idle, free-with 3 64 1025)
+    ∷ (idle, free-with 65 64 64)
+    ∷ (idle-with 3 64 1, free-with 3 64 1024)
+    ∷ [])
+    ≡ replicate 6 (report.Refused 2) ++ report.Nothing ∷ []
+unfolding computes
+numbers-ill = refl
+
 -- ## Refusals of a well-formed bench, and which comes first
 
 abbrev asking : Console
 asking = holds (row 0x41) 3 0
 
 abbrev down : Console
-down = downedConsole (record { 0 = 3 })
+down = downedConsole (numbersFresh 3)
 
 abbrev spent : ℕ
 spent = 4294967295
 
 abbrev no-more : Console
-no-more = consoleWith (record { used = spent }) (Send (record { 0 = 1 })) true (row 0x41)
+no-more = consoleWith (numbersFresh spent) (Send (record { 0 = 1 })) true (row 0x41)
 
 -- nothing in the air: a console, and what it is asked
 abbrev told : Console × Action → Report

@@ -9,6 +9,7 @@ use Rattle.ground.specs.Cell.{spaces}
 use Rattle.ground.specs.Bytes.{field}
 use Rattle.wire.specs.declared.I.{I}
 use Rattle.wire.specs.declared.J.{J}
+use Rattle.rules.specs.Supply.{fresh-numbers}
 use Rattle.rules.specs.Bench.{fresh}
 use Rattle.rules.specs.Log.{Event}
 use Rattle.rules.specs.Demand3.{unnumbered}
@@ -69,4 +70,4 @@ pub record ListRight (input before after : List ℕ) (n : ℕ) : Type 0 where
   pub rest : drop n after ≡ drop n before
   pub orders : OrdersRight j₀ i₀ clear clear (actionsIn input before)
   -- the log whose orders are right, without the puts' numbers, is what the lines show
-  pub shown : map (Option·map unnumbered) (rowsOf [] (fresh 0 0) (actionsIn input before)) ≡ linesShow (recordsIn input before) after
+  pub shown : map (Option·map unnumbered) (rowsOf [] (fresh (fresh-numbers 0) (fresh-numbers 0)) (actionsIn input before)) ≡ linesShow (recordsIn input before) after

@@ -6,7 +6,7 @@ use mathlib.Core.List.{List, [], _∷_, map}
 use Rattle.wire.specs.declared.I.{I}
 use Rattle.wire.specs.declared.J.{J}
 use Rattle.ground.specs.Cell.{isMessage}
-use Rattle.rules.specs.Supply.{numbering, Numbers}
+use Rattle.rules.specs.Supply.{numbering, Numbers, fresh-numbers}
 use Rattle.rules.specs.Letters.{Letter, letter}
 use Rattle.rules.specs.Bench as rules
 use Rattle.rules.specs.Bench.{fresh}
@@ -70,8 +70,8 @@ rowsOf past b (a ∷ l) = rowsFrom (letter (a .letter)) a past b (λ p c. rowsOf
 
 -- that log is right, and without the numbers its rows are what the step shows
 pub record OrdersRight (j : J) (i : I) (out back : List ℕ) (l : List Action) : Type 0 where
-  pub right : Right (written (rowsOf [] (fresh (j .0) (i .0)) l) [])
-  pub own : map (Option·map unnumbered) (rowsOf [] (fresh (j .0) (i .0)) l) ≡ allShown l (freshOutcomes j i out back l)
+  pub right : Right (written (rowsOf [] (fresh (fresh-numbers (j .0)) (fresh-numbers (i .0))) l) [])
+  pub own : map (Option·map unnumbered) (rowsOf [] (fresh (fresh-numbers (j .0)) (fresh-numbers (i .0))) l) ≡ allShown l (freshOutcomes j i out back l)
 
 -- ## Where a list of actions leaves the bench and its tables
 

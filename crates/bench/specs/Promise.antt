@@ -9,7 +9,7 @@ use Rattle.ground.specs.Choice.{if_then_else_}
 use Rattle.ground.specs.Cell.{isMessage, spaces}
 use Rattle.wire.specs.declared.I.{I}
 use Rattle.wire.specs.declared.J.{J}
-use Rattle.rules.specs.Supply.{numbering, Numbers}
+use Rattle.rules.specs.Supply.{numbering, Numbers, fresh-numbers}
 use Rattle.rules.specs.Letters.{Letter, letter}
 use Rattle.rules.specs.Ends.{nothing}
 use Rattle.rules.specs.Bench as rules
@@ -56,7 +56,7 @@ benchStep b a out back = stepOf (letter (a .letter)) b a out back
 -- ## Fresh: any two last-used numbers; a table of another length is 2, and neither is touched
 
 abbrev pub freshRules : J → I → rules.Bench Numbers (List ℕ)
-freshRules j i = rules.fresh (j .0) (i .0)
+freshRules j i = rules.fresh (fresh-numbers (j .0)) (fresh-numbers (i .0))
 
 unfoldable pub benchFresh : J → I → List ℕ → List ℕ → Result
 benchFresh j i out back =

@@ -22,6 +22,7 @@ ghost use mathlib.Core.Bool.{true, _&&_};
 ghost use lib.Dec.{leb};
 ghost use Rattle.ground.specs.Cell.{spaces, isMessage};
 ghost use Rattle.ground.specs.Choice.{if_then_else_};
+ghost use Rattle.bench.specs.Traffic.{countTaken, tableTaken};
 ghost use Rattle.bench.specs.ByModes.{Known, toldAs, modesStep, OnConsole, OnController, OnLosing, ConsoleReady, ControllerReady};
 
 // The console with the message that it holds, and the controller, without their numbers.
@@ -251,20 +252,50 @@ pub(crate) fn controller_asked(
     controller_moves(b, d, next, came, ask, line, a, out, back)
 }
 
-// Nothing to report.
-fn packet_lost(b: Modes, sent: usize, returned: usize) -> Told
-    ensures { λ r. ⌜ r ≡ record { report = Report.Nothing; message = spaces; console = Move.Stay; controller = Move.Stay; after = record { console = b .console; controller = b .controller; sent = sent; returned = returned } } ⌝ }
+fn lost_report(count: usize, place: usize) -> Report
+    ensures { λ r. ⌜ r ≡ (if leb count place then Report.Refused 3 else Report.Nothing) ⌝ }
 {
-    let mut after = b;
-    after.sent = sent;
-    after.returned = returned;
+    if count <= place {
+        Report::Refused(3)
+    } else {
+        Report::Nothing
+    }
+}
+
+// A refusal comes this way too: with one way for what stays, the compiler need not lay it out beforehand.
+fn packet_lost(b: Modes, report: Report, sent: usize, returned: usize) -> Told
+    ensures { λ r. ⌜ r ≡ record { report = report; message = spaces; console = Move.Stay; controller = Move.Stay; after = record { console = b .console; controller = b .controller; sent = sent; returned = returned } } ⌝ }
+{
+    let console = b.console;
+    let controller = b.controller;
     Told {
-        report: Report::Nothing,
+        report,
         message: [0x20; 16],
         console: Move::Stay,
         controller: Move::Stay,
-        after,
+        after: Modes {
+            sent,
+            returned,
+            console,
+            controller,
+        },
     }
+}
+
+fn lost_to_console(b: Modes, place: usize, back: &mut [u8]) -> Told
+    ensures { λ r. ⌜ (r ≡ record { report = if leb (b .returned) place then Report.Refused 3 else Report.Nothing; message = spaces; console = Move.Stay; controller = Move.Stay; after = record { console = b .console; controller = b .controller; sent = b .sent; returned = countTaken true (b .returned) place } }) × (now (back .exit) ≡ tableTaken true (now (back .entry)) (b .returned) place) ⌝ }
+{
+    let report = lost_report(b.returned, place);
+    let returned = take(true, back, b.returned, place);
+    packet_lost(b, report, b.sent, returned)
+}
+
+fn lost_to_controller(b: Modes, place: usize, out: &mut [u8]) -> Told
+    ensures { λ r. ⌜ (r ≡ record { report = if leb (b .sent) place then Report.Refused 3 else Report.Nothing; message = spaces; console = Move.Stay; controller = Move.Stay; after = record { console = b .console; controller = b .controller; sent = countTaken true (b .sent) place; returned = b .returned } }) × (now (out .exit) ≡ tableTaken true (now (out .entry)) (b .sent) place) ⌝ }
+{
+    let report = lost_report(b.sent, place);
+    let sent = take(true, out, b.sent, place);
+    packet_lost(b, report, sent, b.returned)
 }
 
 // A packet lost on its way. `next` is there for the promise alone.
@@ -282,20 +313,8 @@ pub(crate) fn loses(
 {
     let from = line.takes;
     match from {
-        Takes::ToConsole => {
-            if b.returned <= a.place {
-                return refused(3, b);
-            }
-            let returned = take(true, back, b.returned, a.place);
-            packet_lost(b, b.sent, returned)
-        }
-        Takes::ToController => {
-            if b.sent <= a.place {
-                return refused(3, b);
-            }
-            let sent = take(true, out, b.sent, a.place);
-            packet_lost(b, sent, b.returned)
-        }
-        Takes::Nothing => packet_lost(b, b.sent, b.returned), // no letter of the table: who asks no end takes a packet
+        Takes::ToConsole => lost_to_console(b, a.place, back),
+        Takes::ToController => lost_to_controller(b, a.place, out),
+        Takes::Nothing => packet_lost(b, Report::Nothing, b.sent, b.returned), // no letter of the table: who asks no end takes a packet
     }
 }

@@ -1,119 +1,80 @@
--- A bench's state, read and written, and the bench's entries, from the answers of their calls.
-use Prim.Native.Nat.{ℕ, _+_, _-_, _*_, _%_, _≤_, _<_}
-use mathlib.Core.Path.{_≡_, refl, sym, ap, _∙_}
+-- A bench's state, read, and the bench's entries, from the answers of their calls.
+use Prim.Native.Nat.{ℕ, _*_, _<_}
+use mathlib.Core.Path.{_≡_, sym, ap, _∙_}
 use mathlib.Core.Bool.{Bool, false}
-use mathlib.Core.List.{List, [], _∷_, _++_, append-assoc, append-nil}
+use mathlib.Core.List.{List}
 use native.Mathlib.Omega.{arith}
 use borrow.Author.Tests.{ne-eqb, eq-eqb}
-use lib.ListN.{length, getD, take, drop, length-append, length-take, length-drop, drop-of-length-le}
-use borrow.Rule.Slice.PartMut.{same-len-mid}
+use lib.ListN.{length, getD}
 use lib.Dec.{eqb}
 use Rattle.ground.specs.Choice.{if_then_else_}
 use Rattle.ground.proofs.Tests.{by-test}
 use Rattle.wire.specs.Frame.{field}
 use Rattle.wire.specs.declared.I.{I}
 use Rattle.wire.specs.declared.J.{J}
-use Rattle.wire.proofs.Frames.{split-field}
 use Rattle.ends.specs.declared.Report.{Report}
 use Rattle.ends_console.specs.declared.fields.Console.{Console}
 use Rattle.ends_controller.specs.declared.fields.Controller.{Controller}
 use Rattle.tables.specs.Shown.{showRefusal}
 use Rattle.tables.specs.declared.shown.Way.the-variants.{Out, Back}
-use Rattle.tables.proofs.LentParts.{part, replaced, part-length, back-at}
 use Rattle.tables.proofs.Showing.{showable}
 use Rattle.bench.specs.Promise.{Result, benchStep, benchFresh}
 use Rattle.bench.specs.declared.Action.{Action}
 use Rattle.bench.specs.declared.Bench.{Bench}
 use Rattle.bench.specs.declared.Outcome.{Outcome}
 use Rattle.boundary.specs.State.{isRefusal, told, written}
-use Rattle.boundary.specs.Console.{consoleBytes, noConsole, consoleAt}
-use Rattle.boundary.specs.Controller.{controllerBytes, noController, controllerAt, deliveredTo}
-use Rattle.boundary.specs.Benches.{counts, benchBytes, partsAt, noBench, benchAt, BenchPut, put, freshPut, StepPut, stepped, stepPut, showTo, showAt, offsetAt}
+use Rattle.boundary.specs.Console.{noConsole, consoleAt}
+use Rattle.boundary.specs.Controller.{noController, controllerAt, deliveredTo}
+use Rattle.boundary.specs.Benches.{benchBytes, partsAt, noBench, benchAt, BenchPut, put, freshPut, StepPut, stepped, stepPut, showTo, showAt, offsetAt}
 
 -- ## Read
 
-pub parts-are : (s : List ℕ) {c : Console} {d : Controller} {m n : ℕ} → c ≡ consoleAt (field s 0 30) → d ≡ controllerAt (field s 30 17) → m ≡ getD s 47 0 → n ≡ getD s 48 0 → _≡_ {A = Bench} (record { console = c; controller = d; sent = m; returned = n }) (partsAt s)
+pub parts-are : (s : List ℕ) {c : Console} {d : Controller} {m n : ℕ} → c ≡ consoleAt (field s 0 36) → d ≡ controllerAt (field s 36 23) → m ≡ getD s 59 0 → n ≡ getD s 60 0 → _≡_ {A = Bench} (record { console = c; controller = d; sent = m; returned = n }) (partsAt s)
 unfolding partsAt
 parts-are s e f g h = rw (e, f, g, h)
 
 pub none-is : {c : Console} {d : Controller} → c ≡ noConsole → d ≡ noController → _≡_ {A = Bench} (record { console = c; controller = d; sent = 0; returned = 0 }) noBench
 none-is e f = rw (e, f)
 
-pub bench-short : (s : List ℕ) {b : Bench} → (length s ≡ 49 → ⊥) → b ≡ noBench → b ≡ benchAt s
+pub bench-short : (s : List ℕ) {b : Bench} → (length s ≡ 61 → ⊥) → b ≡ noBench → b ≡ benchAt s
 unfolding benchAt if_then_else_
-bench-short s h e = rw (ne-eqb (length s) 49 h) e
+bench-short s h e = rw (ne-eqb (length s) 61 h) e
 
-pub bench-whole : (s : List ℕ) {b : Bench} → length s ≡ 49 → b ≡ partsAt s → b ≡ benchAt s
+pub bench-whole : (s : List ℕ) {b : Bench} → length s ≡ 61 → b ≡ partsAt s → b ≡ benchAt s
 unfolding benchAt if_then_else_
-bench-whole s h e = rw (eq-eqb (length s) 49 h) e
-
--- ## Written: the console over the first 30 bytes, the controller over the next 17, the counts over the last two
-
-pub counts-put : (sent returned : ℕ) (out : List ℕ) {p q : ℕ} {x : List ℕ} → length out ≡ 2 → p ≡ sent % 256 → q ≡ returned % 256 → x ≡ take 2 (p ∷ q ∷ []) ++ drop 2 out → x ≡ counts sent returned
-counts-put sent returned out {p} {q} l e f g = g ∙ ap (λ (r : List ℕ). p ∷ q ∷ r) (drop-of-length-le out {i = 2} (omega (arith, l))) ∙ rw (e, f)
-
--- a part with others in its place: the list keeps its length
-replaced-long : (t y : List ℕ) (a e : ℕ) → length y ≡ length (part t a e) → length (replaced t a e y) ≡ length t
-replaced-long t y a e h = same-len-mid a (e - a) t y h
-
-module _ (s : List ℕ) (l : length s ≡ 49) where
-  cut : s ≡ field s 0 30 ++ (field s 30 17 ++ (field s 47 2 ++ []))
-  cut =
-      split-field s 0 30
-      ∙ ap (λ (r : List ℕ). field s 0 30 ++ r) (split-field s 30 17 ∙ ap (λ (r : List ℕ). field s 30 17 ++ r) (split-field s 47 2 ∙ ap (λ (r : List ℕ). field s 47 2 ++ r) (drop-of-length-le s {i = 49} (omega (arith, l)))))
-
-  part-long : (at n : ℕ) → at + n ≤ 49 → length (field s at n) ≡ n
-  part-long at n h = length-take n (drop at s) ∙ rw (length-drop at s, l) (omega (arith, h))
-
-  all-over : (y z w : List ℕ) → length y ≡ 30 → length z ≡ 17 → replaced (replaced (replaced s 0 30 y) 30 47 z) 47 49 w ≡ y ++ (z ++ w)
-  all-over y z w m n =
-      let a = field s 30 17 in
-      let b = field s 47 2 in
-      ap (λ (r : List ℕ). replaced (replaced (replaced r 0 30 y) 30 47 z) 47 49 w) cut
-      ∙ ap (λ (r : List ℕ). replaced (replaced r 30 47 z) 47 49 w) (back-at [] (field s 0 30) (a ++ (b ++ [])) y 0 30 refl (part-long 0 30 (omega arith)))
-      ∙ ap (λ (r : List ℕ). replaced r 47 49 w) (back-at y a (b ++ []) z 30 47 m (part-long 30 17 (omega arith)) ∙ sym (append-assoc y z (b ++ [])))
-      ∙ back-at (y ++ z) b [] w 47 49 (length-append y z ∙ rw (m, n)) (part-long 47 2 (omega arith))
-      ∙ append-assoc y z (w ++ [])
-      ∙ rw append-nil
-
-  -- each part has as many bytes as were lent
-  pub bench-put : (y z w : List ℕ) (b : Bench) → length y ≡ length (part s 0 30) → length z ≡ length (part (replaced s 0 30 y) 30 47) → y ≡ consoleBytes (b .console) → z ≡ controllerBytes (b .controller) → w ≡ counts (b .sent) (b .returned) → replaced (replaced (replaced s 0 30 y) 30 47 z) 47 49 w ≡ benchBytes b
-  unfolding benchBytes
-  bench-put y z w b m n e f g =
-      let k = replaced-long s y 0 30 m ∙ l in
-      all-over y z w (m ∙ part-length s 0 30 (omega (arith, l))) (n ∙ part-length (replaced s 0 30 y) 30 47 (omega (arith, k))) ∙ rw (e, f, g)
+bench-whole s h e = rw (eq-eqb (length s) 61 h) e
 
 -- ## Kept
 
 module _ (p : Report) (s w : List ℕ) {r : Bool} (e : r ≡ isRefusal p) (f : r ≡ false) where
-  pub kept-short : (length s ≡ 49 → ⊥) → s ≡ (if isRefusal p then s else written 49 s w)
+  pub kept-short : (length s ≡ 61 → ⊥) → s ≡ (if isRefusal p then s else written 61 s w)
   unfolding written if_then_else_
-  kept-short h = rw (← e, f, ne-eqb (length s) 49 h)
+  kept-short h = rw (← e, f, ne-eqb (length s) 61 h)
 
-  pub kept-put : {x : List ℕ} → length s ≡ 49 → x ≡ w → x ≡ (if isRefusal p then s else written 49 s w)
+  pub kept-put : {x : List ℕ} → length s ≡ 61 → x ≡ w → x ≡ (if isRefusal p then s else written 61 s w)
   unfolding written if_then_else_
-  kept-put h g = rw (← e, f, eq-eqb (length s) 49 h) g
+  kept-put h g = rw (← e, f, eq-eqb (length s) 61 h) g
 
 -- ## Fresh, and a step
 
-module _ (s : List ℕ) {o : Outcome} {x y z : List ℕ} {t : ℕ} (g : z ≡ (if isRefusal (o .report) then s else written 49 s (benchBytes (o .bench)))) (h : t ≡ told (o .report) false false) where
+module _ (s : List ℕ) {o : Outcome} {x y z : List ℕ} {t : ℕ} (g : z ≡ (if isRefusal (o .report) then s else written 61 s (benchBytes (o .bench)))) (h : t ≡ told (o .report) false false) where
   put-is : {r : Result} → record { outcome = o; out = x; back = y } ≡ r → _≡_ {A = BenchPut} (record { told = t; state = z; out = x; back = y }) (put s r)
   put-is e =
       let here : _≡_ {A = BenchPut} (record { told = t; state = z; out = x; back = y }) (put s (record { outcome = o; out = x; back = y })) = λ i. record { told = h i; state = g i; out = x; back = y } in
       here ∙ ap (put s) e
 
-  pub fresh-made : (j : J) (i : I) (out back : List ℕ) → length s ≡ 49 → record { outcome = o; out = x; back = y } ≡ benchFresh j i out back → _≡_ {A = BenchPut} (record { told = t; state = z; out = x; back = y }) (freshPut j i s out back)
+  pub fresh-made : (j : J) (i : I) (out back : List ℕ) → length s ≡ 61 → record { outcome = o; out = x; back = y } ≡ benchFresh j i out back → _≡_ {A = BenchPut} (record { told = t; state = z; out = x; back = y }) (freshPut j i s out back)
   unfolding freshPut if_then_else_
-  fresh-made j i out back l e = rw (eq-eqb (length s) 49 l) (put-is e)
+  fresh-made j i out back l e = rw (eq-eqb (length s) 61 l) (put-is e)
 
   pub bench-stepped : (a : Action) (out back d : List ℕ) {b : Bench} {w : List ℕ} → b ≡ benchAt s → record { outcome = o; out = x; back = y } ≡ benchStep b a out back → w ≡ deliveredTo (o .report) (o .message) d → _≡_ {A = StepPut} (record { told = t; state = z; out = x; back = y; delivered = w }) (stepPut s a out back d)
   bench-stepped a out back d {w = w} f e k =
       let here : _≡_ {A = StepPut} (record { told = t; state = z; out = x; back = y; delivered = w }) (stepped s d (record { outcome = o; out = x; back = y })) = λ i. record { told = h i; state = g i; out = x; back = y; delivered = k i } in
       here ∙ ap (stepped s d) (e ∙ ap (λ (c : Bench). benchStep c a out back) f)
 
-pub fresh-short : (j : J) (i : I) (s out back : List ℕ) → (length s ≡ 49 → ⊥) → _≡_ {A = BenchPut} (record { told = 2; state = s; out = out; back = back }) (freshPut j i s out back)
+pub fresh-short : (j : J) (i : I) (s out back : List ℕ) → (length s ≡ 61 → ⊥) → _≡_ {A = BenchPut} (record { told = 2; state = s; out = out; back = back }) (freshPut j i s out back)
 unfolding freshPut if_then_else_
-fresh-short j i s out back h = rw (ne-eqb (length s) 49 h)
+fresh-short j i s out back h = rw (ne-eqb (length s) 61 h)
 
 -- ## Showing a packet
 
@@ -142,18 +103,18 @@ module _ (end place : ℕ) (out : List ℕ) (sent : ℕ) (back : List ℕ) (retu
 pub ruleset shows-to = (show-console, show-controller, show-no-end)
 
 module _ (s out back : List ℕ) (end place : ℕ) where
-  pub show-short : (length s ≡ 49 → ⊥) → 2 ≡ showAt s out back end place
+  pub show-short : (length s ≡ 61 → ⊥) → 2 ≡ showAt s out back end place
   unfolding showAt if_then_else_
-  show-short h = rw (ne-eqb (length s) 49 h)
+  show-short h = rw (ne-eqb (length s) 61 h)
 
-  pub offset-short : (n : ℕ) → (length s ≡ 49 → ⊥) → n ≡ offsetAt (showAt s out back end place) place n
+  pub offset-short : (n : ℕ) → (length s ≡ 61 → ⊥) → n ≡ offsetAt (showAt s out back end place) place n
   unfolding offsetAt if_then_else_
   offset-short n h = rw (← show-short h)
 
-  module _ (l : length s ≡ 49) {r m n : ℕ} (f : m ≡ getD s 47 0) (g : n ≡ getD s 48 0) (e : r ≡ showTo end place out m back n) where
+  module _ (l : length s ≡ 61) {r m n : ℕ} (f : m ≡ getD s 59 0) (g : n ≡ getD s 60 0) (e : r ≡ showTo end place out m back n) where
     pub show-refused : r ≡ showAt s out back end place
     unfolding showAt if_then_else_
-    show-refused = rw (eq-eqb (length s) 49 l, ← f, ← g) e
+    show-refused = rw (eq-eqb (length s) 61 l, ← f, ← g) e
 
     pub show-found : r ≡ 0 → 0 ≡ showAt s out back end place
     show-found z = sym z ∙ show-refused

@@ -23,30 +23,37 @@ use Rattle.bench.specs.declared.Bench.{Bench}
 use Rattle.bench.proofs.RefusedSame.{refused-same}
 use Rattle.boundary.specs.Console as console
 use Rattle.boundary.specs.Controller as controller
+use Rattle.rules.specs.Supply.{fresh-numbers}
+use Rattle.numbers.specs.Numbers.{numbersMeans}
+use Rattle.numbers.proofs.Range.{Fit, sound-fits}
+use Rattle.boundary.proofs.NumbersTrips.{numbers-fit}
 use Rattle.boundary.specs.Benches.{partsAt, benchAt, stepResult, stepped, stepPut}
 
 -- ## What bytes stand for has fields of their types
 
 pub record ConsoleTyped (c : Console) : Type 0 where
   pub message : length (c .message) ≡ 16
-  pub used : c .numbers .used < 2 ^ 32
+  pub numbers : Fit (numbersMeans (c .numbers))
   pub last : c .last .0 < 2 ^ 32
 
 pub record ControllerTyped (c : Controller) : Type 0 where
-  pub used : c .numbers .used < 2 ^ 32
+  pub numbers : Fit (numbersMeans (c .numbers))
   pub j : c .j .0 < 2 ^ 32
 
-state-long : (s : List ℕ) → console.isState s ≡ true → length s ≡ 30
+none-fit : Fit (fresh-numbers 0)
+none-fit = sound-fits (fresh-numbers 0) refl
+
+state-long : (s : List ℕ) → console.isState s ≡ true → length s ≡ 36
 unfolding console.isState
 state-long s t =
-    let x = eqb (length s) 30 in
-    let y = leb (getD s 12 0) 1 in
-    eqb-true (length s) 30 (and-left x y (and-left (x && y) (leb (getD s 13 0) 1) t))
+    let x = eqb (length s) 36 in
+    let y = leb (getD s 18 0) 1 in
+    eqb-true (length s) 36 (and-left x y (and-left (x && y) (leb (getD s 19 0) 1) t))
 
 -- whatever the bytes
 pub console-long : (s : List ℕ) → length (console.consoleAt s .message) ≡ 16
 unfolding console.consoleAt console.fieldsAt if_then_else_
-console-long s = by-test (console.isState s) (λ t. rw t (length-drop 14 s ∙ rw (state-long s t))) (λ f. rw f)
+console-long s = by-test (console.isState s) (λ t. rw t (length-drop 20 s ∙ rw (state-long s t))) (λ f. rw f)
 
 pub console-typed : (s : List ℕ) → Bytes s → ConsoleTyped (console.consoleAt s)
 unfolding console.consoleAt console.fieldsAt if_then_else_
@@ -54,17 +61,17 @@ console-typed s b =
     by-test (console.isState s)
     (λ t.
     let l = state-long s t in
-    rw t (record { message = length-drop 14 s ∙ rw l; used = field-below s 0 4 b (omega (arith, l)); last = field-below s 8 4 b (omega (arith, l)) }))
-    (λ f. rw f (record { message = refl; used = omega arith; last = omega arith }))
+    rw t (record { message = length-drop 20 s ∙ rw l; numbers = numbers-fit s b (omega (arith, l)); last = field-below s 14 4 b (omega (arith, l)) }))
+    (λ f. rw f (record { message = refl; numbers = none-fit; last = omega arith }))
 
 pub controller-typed : (s : List ℕ) → Bytes s → ControllerTyped (controller.controllerAt s)
 unfolding controller.controllerAt controller.isState controller.fieldsAt if_then_else_
 controller-typed s b =
     by-test (controller.isState s)
     (λ t.
-    let l = eqb-true (length s) 17 (and-left (eqb (length s) 17) (leb (getD s 16 0) 1) t) in
-    rw t (record { used = field-below s 0 4 b (omega (arith, l)); j = field-below s 4 4 b (omega (arith, l)) }))
-    (λ f. rw f (record { used = omega arith; j = omega arith }))
+    let l = eqb-true (length s) 23 (and-left (eqb (length s) 23) (leb (getD s 22 0) 1) t) in
+    rw t (record { numbers = numbers-fit s b (omega (arith, l)); j = field-below s 10 4 b (omega (arith, l)) }))
+    (λ f. rw f (record { numbers = none-fit; j = omega arith }))
 
 abbrev TypedBench : Bench → Type 0
 TypedBench b = Typed (b .console) (b .controller)
@@ -72,14 +79,14 @@ TypedBench b = Typed (b .console) (b .controller)
 parts-typed : (s : List ℕ) → Bytes s → TypedBench (partsAt s)
 unfolding partsAt
 parts-typed s b =
-    let c = console-typed (field s 0 30) (bytes-take 30 s b) in
-    let d = controller-typed (field s 30 17) (bytes-take 17 (drop 30 s) (bytes-drop 30 s b)) in
+    let c = console-typed (field s 0 36) (bytes-take 36 s b) in
+    let d = controller-typed (field s 36 23) (bytes-take 23 (drop 36 s) (bytes-drop 36 s b)) in
     record { message = c .message; console-last = c .last; controller-j = d .j }
 
 bench-typed : (s : List ℕ) → Bytes s → TypedBench (benchAt s)
 unfolding benchAt if_then_else_
 bench-typed s b =
-    by-test (eqb (length s) 49) (λ t. rw t (parts-typed s b))
+    by-test (eqb (length s) 61) (λ t. rw t (parts-typed s b))
     (λ f. rw f (record { message = refl; console-last = omega arith; controller-j = omega arith }))
 
 -- ## A refusal

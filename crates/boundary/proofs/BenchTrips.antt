@@ -51,36 +51,36 @@ module _ (b : Bench) (c : console.Typed (b .console)) (d : controller.Typed (b .
   abbrev y : List ℕ
   y = controllerBytes (b .controller)
 
-  x-long : length x ≡ 30
+  x-long : length x ≡ 36
   unfolding consoleBytes bytesOf
   x-long = rw (c .message)
 
-  y-long : length y ≡ 17
+  y-long : length y ≡ 23
   unfolding controllerBytes bytesOf
   y-long = refl
 
-  both-long : length (x ++ y) ≡ 47
+  both-long : length (x ++ y) ≡ 59
   both-long = length-append x y ∙ rw (x-long, y-long)
 
-  -- the two counts stand after 47 bytes
+  -- the two counts stand after 59 bytes
   flat : (p q : ℕ) → x ++ (y ++ (p ∷ q ∷ [])) ≡ (x ++ y) ++ p ∷ q ∷ []
   flat p q = sym (append-assoc x y (p ∷ q ∷ []))
 
-  long : (p q : ℕ) → length (x ++ (y ++ (p ∷ q ∷ []))) ≡ 49
+  long : (p q : ℕ) → length (x ++ (y ++ (p ∷ q ∷ []))) ≡ 61
   long p q = length-append x (y ++ (p ∷ q ∷ [])) ∙ rw (length-append y (p ∷ q ∷ []), x-long, y-long)
 
-  console-part : (p q : ℕ) → field (x ++ (y ++ (p ∷ q ∷ []))) 0 30 ≡ x
-  console-part p q = take-at x (y ++ (p ∷ q ∷ [])) 30 x-long
+  console-part : (p q : ℕ) → field (x ++ (y ++ (p ∷ q ∷ []))) 0 36 ≡ x
+  console-part p q = take-at x (y ++ (p ∷ q ∷ [])) 36 x-long
 
-  controller-part : (p q : ℕ) → field (x ++ (y ++ (p ∷ q ∷ []))) 30 17 ≡ y
-  controller-part p q = rw (drop-at x (y ++ (p ∷ q ∷ [])) 30 x-long) (take-at y (p ∷ q ∷ []) 17 y-long)
+  controller-part : (p q : ℕ) → field (x ++ (y ++ (p ∷ q ∷ []))) 36 23 ≡ y
+  controller-part p q = rw (drop-at x (y ++ (p ∷ q ∷ [])) 36 x-long) (take-at y (p ∷ q ∷ []) 23 y-long)
 
-  first-count : (p q : ℕ) → getD (x ++ (y ++ (p ∷ q ∷ []))) 47 0 ≡ p
-  first-count p q = rw (flat p q) (getD-at (x ++ y) p (q ∷ []) 0 47 both-long)
+  first-count : (p q : ℕ) → getD (x ++ (y ++ (p ∷ q ∷ []))) 59 0 ≡ p
+  first-count p q = rw (flat p q) (getD-at (x ++ y) p (q ∷ []) 0 59 both-long)
 
-  second-count : (p q : ℕ) → getD (x ++ (y ++ (p ∷ q ∷ []))) 48 0 ≡ q
+  second-count : (p q : ℕ) → getD (x ++ (y ++ (p ∷ q ∷ []))) 60 0 ≡ q
   second-count p q =
-      rw (flat p q, ← append-snoc (x ++ y) p (q ∷ [])) (getD-at ((x ++ y) ++ (p ∷ [])) q [] 0 48 (length-append (x ++ y) (p ∷ []) ∙ rw both-long))
+      rw (flat p q, ← append-snoc (x ++ y) p (q ∷ [])) (getD-at ((x ++ y) ++ (p ∷ [])) q [] 0 60 (length-append (x ++ y) (p ∷ []) ∙ rw both-long))
 
   small : (n : ℕ) → n ≤ 64 → n % 256 ≡ n
   small n h = omega (arith, h)
@@ -90,7 +90,7 @@ module _ (b : Bench) (c : console.Typed (b .console)) (d : controller.Typed (b .
   bench-read-back =
       let p = b .sent % 256 in
       let q = b .returned % 256 in
-      rw (eq-eqb (length (x ++ (y ++ (p ∷ q ∷ [])))) 49 (long p q), console-part p q, controller-part p q, first-count p q, second-count p q, console.console-read-back (b .console) c, controller.controller-read-back (b .controller) d, small (b .sent) few, small (b .returned) back)
+      rw (eq-eqb (length (x ++ (y ++ (p ∷ q ∷ [])))) 61 (long p q), console-part p q, controller-part p q, first-count p q, second-count p q, console.console-read-back (b .console) c, controller.controller-read-back (b .controller) d, small (b .sent) few, small (b .returned) back)
 
 -- ## What is accepted is written back
 
@@ -99,19 +99,19 @@ none-ill : (out back : List ℕ) → benchOk noBench out back ≡ false
 unfolding benchOk consoleOk filled if_then_else_
 none-ill out back = refl
 
-well-formed-long : (s out back : List ℕ) → benchOk (benchAt s) out back ≡ true → length s ≡ 49
+well-formed-long : (s out back : List ℕ) → benchOk (benchAt s) out back ≡ true → length s ≡ 61
 unfolding benchAt if_then_else_
 well-formed-long s out back e =
-    by-test (eqb (length s) 49) (λ t. eqb-true (length s) 49 t) (λ f. absurd (false≢true (sym (none-ill out back) ∙ rw f at e)))
+    by-test (eqb (length s) 61) (λ t. eqb-true (length s) 61 t) (λ f. absurd (false≢true (sym (none-ill out back) ∙ rw f at e)))
 
-module _ (s out back : List ℕ) (bytes : Bytes s) (l : length s ≡ 49) where
-  two-left : drop 47 s ≡ getD s 47 0 ∷ getD s 48 0 ∷ []
+module _ (s out back : List ℕ) (bytes : Bytes s) (l : length s ≡ 61) where
+  two-left : drop 59 s ≡ getD s 59 0 ∷ getD s 60 0 ∷ []
   two-left =
-      drop-cons s 47 0 (omega (arith, l))
-      ∙ ap (λ (r : List ℕ). getD s 47 0 ∷ r) (drop-cons s 48 0 (omega (arith, l)) ∙ ap (λ (r : List ℕ). getD s 48 0 ∷ r) (drop-of-length-le s {i = 49} (omega (arith, l))))
+      drop-cons s 59 0 (omega (arith, l))
+      ∙ ap (λ (r : List ℕ). getD s 59 0 ∷ r) (drop-cons s 60 0 (omega (arith, l)) ∙ ap (λ (r : List ℕ). getD s 60 0 ∷ r) (drop-of-length-le s {i = 61} (omega (arith, l))))
 
-  cut : s ≡ field s 0 30 ++ (field s 30 17 ++ (getD s 47 0 ∷ getD s 48 0 ∷ []))
-  cut = split-field s 0 30 ∙ ap (λ (r : List ℕ). field s 0 30 ++ r) (split-field s 30 17 ∙ ap (λ (r : List ℕ). field s 30 17 ++ r) two-left)
+  cut : s ≡ field s 0 36 ++ (field s 36 23 ++ (getD s 59 0 ∷ getD s 60 0 ∷ []))
+  cut = split-field s 0 36 ∙ ap (λ (r : List ℕ). field s 0 36 ++ r) (split-field s 36 23 ∙ ap (λ (r : List ℕ). field s 36 23 ++ r) two-left)
 
   same-count : (i : ℕ) → getD s i 0 % 256 ≡ getD s i 0
   same-count i = let h = bytes i in omega (arith, h)
@@ -119,19 +119,19 @@ module _ (s out back : List ℕ) (bytes : Bytes s) (l : length s ≡ 49) where
   same-parts : benchOk (partsAt s) out back ≡ true → benchBytes (partsAt s) ≡ s
   unfolding benchBytes partsAt benchOk
   same-parts e =
-      let c = consoleOk (consoleAt (field s 0 30)) in
-      let d = controllerOk (controllerAt (field s 30 17)) in
-      let t = tableOk ToController (getD s 47 0) out in
-      let u = tableOk ToConsole (getD s 48 0) back in
+      let c = consoleOk (consoleAt (field s 0 36)) in
+      let d = controllerOk (controllerAt (field s 36 23)) in
+      let t = tableOk ToController (getD s 59 0) out in
+      let u = tableOk ToConsole (getD s 60 0) back in
       let f = and-left (c && d) t (and-left (c && d && t) u e) in
-      rw (console.console-write-back (field s 0 30) (bytes-take 30 s bytes) (and-left c d f), controller.controller-write-back (field s 30 17) (bytes-take 17 (drop 30 s) (bytes-drop 30 s bytes)) (and-right c d f), same-count 47, same-count 48)
+      rw (console.console-write-back (field s 0 36) (bytes-take 36 s bytes) (and-left c d f), controller.controller-write-back (field s 36 23) (bytes-take 23 (drop 36 s) (bytes-drop 36 s bytes)) (and-right c d f), same-count 59, same-count 60)
       (sym cut)
 
 pub bench-write-back : (s out back : List ℕ) → Bytes s → benchOk (benchAt s) out back ≡ true → benchBytes (benchAt s) ≡ s
 unfolding benchAt if_then_else_
 bench-write-back s out back bytes e =
     let l = well-formed-long s out back e in
-    rw (eq-eqb (length s) 49 l) (same-parts s out back bytes l (rw (eq-eqb (length s) 49 l) at e))
+    rw (eq-eqb (length s) 61 l) (same-parts s out back bytes l (rw (eq-eqb (length s) 61 l) at e))
 
 -- ## A step that is not refused met a state, and leaves the fields that the bench comes to
 
@@ -140,10 +140,10 @@ unfolding benchRefused if_then_else_
 none-refused none a out back = refl
 none-refused (some l) a out back = rw (none-ill out back)
 
-step-long : (s : List ℕ) (a : Action) (out back : List ℕ) → isRefusal (stepResult s a out back .outcome .report) ≡ false → length s ≡ 49
+step-long : (s : List ℕ) (a : Action) (out back : List ℕ) → isRefusal (stepResult s a out back .outcome .report) ≡ false → length s ≡ 61
 unfolding benchAt benchStep if_then_else_
 step-long s a out back e =
-    by-test (eqb (length s) 49) (λ t. eqb-true (length s) 49 t) (λ f. absurd (true≢false (sym (none-refused (letter (a .letter)) a out back) ∙ rw f at e)))
+    by-test (eqb (length s) 61) (λ t. eqb-true (length s) 61 t) (λ f. absurd (true≢false (sym (none-refused (letter (a .letter)) a out back) ∙ rw f at e)))
 
 pub bench-step-leaves : (s : List ℕ) (a : Action) (out back d : List ℕ) → isRefusal (stepResult s a out back .outcome .report) ≡ false → stepPut s a out back d .state ≡ benchBytes (stepResult s a out back .outcome .bench)
 unfolding written if_then_else_

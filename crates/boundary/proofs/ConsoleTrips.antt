@@ -17,17 +17,20 @@ use Rattle.wire.specs.Frame.{field}
 use Rattle.wire.specs.Number.{bytesOf}
 use Rattle.wire.proofs.Frames.{split-field}
 use Rattle.wire.proofs.Numbers.{value-bytesOf, field-back}
+use Rattle.numbers.specs.Numbers.{numbersMeans}
+use Rattle.numbers.proofs.Range.{Fit}
 use Rattle.ends_console.specs.Fields.{consoleOk}
 use Rattle.ends_console.specs.declared.fields.Console.{Console}
 use Rattle.alone.specs.ConsoleAlone.{consoleAlone}
 use Rattle.alone.proofs.ConsoleAlone.{ill-refused}
-use Rattle.boundary.specs.State.{isRefusal, written}
+use Rattle.boundary.specs.State.{numbersBytes, numbersAt, isRefusal, written}
 use Rattle.boundary.specs.Console.{consoleBytes, isState, fieldsAt, consoleAt, consoleStep}
 use Rattle.boundary.proofs.Flags.{flag-small, flag-back, flag-same}
+use Rattle.boundary.proofs.NumbersTrips.{numbers-rest}
 
 -- what the types of a console's fields say
 pub record Typed (c : Console) : Type 0 where
-  pub used : c .numbers .used < 2 ^ 32
+  pub numbers : Fit (numbersMeans (c .numbers))
   pub j : c .j .0 < 2 ^ 32
   pub last : c .last .0 < 2 ^ 32
   pub message : length (c .message) ≡ 16
@@ -39,43 +42,43 @@ module _ (c : Console) (t : Typed c) where
 
   same-fields : fieldsAt (consoleBytes c) ≡ c
   unfolding fieldsAt consoleBytes bytesOf
-  same-fields = rw (value-bytesOf 4 (c .numbers .used) (t .used), value-bytesOf 4 (c .j .0) (t .j), value-bytesOf 4 (c .last .0) (t .last), flag-back (c .held), flag-back (c .up))
+  same-fields = rw (value-bytesOf 4 (c .numbers .used) (t .numbers .last), value-bytesOf 4 (c .numbers .reserved) (t .numbers .reserved), value-bytesOf 2 (c .numbers .block) (t .numbers .block), value-bytesOf 4 (c .j .0) (t .j), value-bytesOf 4 (c .last .0) (t .last), flag-back (c .held), flag-back (c .up))
 
   pub console-read-back : consoleAt (consoleBytes c) ≡ c
   unfolding consoleAt if_then_else_
   console-read-back = rw is-state same-fields
 
--- what 30 bytes with two flags are
+-- what 36 bytes with two flags are
 record State (s : List ℕ) : Type 0 where
-  pub long : length s ≡ 30
-  pub held : leb (getD s 12 0) 1 ≡ true
-  pub up : leb (getD s 13 0) 1 ≡ true
+  pub long : length s ≡ 36
+  pub held : leb (getD s 18 0) 1 ≡ true
+  pub up : leb (getD s 19 0) 1 ≡ true
 
 state : (s : List ℕ) → isState s ≡ true → State s
 unfolding isState
 state s e =
-    let a = eqb (length s) 30 in
-    let b = leb (getD s 12 0) 1 in
-    let d = leb (getD s 13 0) 1 in
+    let a = eqb (length s) 36 in
+    let b = leb (getD s 18 0) 1 in
+    let d = leb (getD s 19 0) 1 in
     let r = and-left (a && b) d e in
-    record { long = eqb-true (length s) 30 (and-left a b r); held = and-right a b r; up = and-right (a && b) d e }
+    record { long = eqb-true (length s) 36 (and-left a b r); held = and-right a b r; up = and-right (a && b) d e }
 
 same-bytes : (s : List ℕ) → Bytes s → isState s ≡ true → consoleBytes (fieldsAt s) ≡ s
 unfolding consoleBytes fieldsAt
 same-bytes s b e =
     let g = state s e in
     let l = g .long in
-    let u = field s 0 4 in
-    let j = field s 4 4 in
-    let k = field s 8 4 in
-    let x = getD s 12 0 in
-    let y = getD s 13 0 in
+    let u = numbersBytes (numbersAt s) in
+    let j = field s 10 4 in
+    let k = field s 14 4 in
+    let x = getD s 18 0 in
+    let y = getD s 19 0 in
     let f : List ℕ = x ∷ y ∷ [] in
-    let m = drop 14 s in
+    let m = drop 20 s in
     let flat : (u ++ (j ++ (k ++ f))) ++ m ≡ u ++ (j ++ (k ++ (f ++ m))) = append-assoc u (j ++ (k ++ f)) m ∙ ap (λ (r : List ℕ). u ++ r) (append-assoc j (k ++ f) m ∙ ap (λ (r : List ℕ). j ++ r) (append-assoc k f m)) in
-    let rest : drop 12 s ≡ f ++ m = drop-cons s 12 0 (omega (arith, l)) ∙ ap (λ (r : List ℕ). x ∷ r) (drop-cons s 13 0 (omega (arith, l))) in
-    let cut : s ≡ u ++ (j ++ (k ++ (f ++ m))) = split-field s 0 4 ∙ ap (λ (r : List ℕ). u ++ r) (split-field s 4 4 ∙ ap (λ (r : List ℕ). j ++ r) (split-field s 8 4 ∙ ap (λ (r : List ℕ). k ++ r) rest)) in
-    rw (field-back s 0 4 b (omega (arith, l)), field-back s 4 4 b (omega (arith, l)), field-back s 8 4 b (omega (arith, l)), flag-same x (g .held), flag-same y (g .up)) (flat ∙ sym cut)
+    let rest : drop 18 s ≡ f ++ m = drop-cons s 18 0 (omega (arith, l)) ∙ ap (λ (r : List ℕ). x ∷ r) (drop-cons s 19 0 (omega (arith, l))) in
+    let after : drop 10 s ≡ j ++ (k ++ (f ++ m)) = split-field s 10 4 ∙ ap (λ (r : List ℕ). j ++ r) (split-field s 14 4 ∙ ap (λ (r : List ℕ). k ++ r) rest) in
+    rw (field-back s 10 4 b (omega (arith, l)), field-back s 14 4 b (omega (arith, l)), flag-same x (g .held), flag-same y (g .up)) (flat ∙ ap (λ (r : List ℕ). u ++ r) (sym after) ∙ numbers-rest s b (omega (arith, l)))
 
 -- bytes that are no state stand for a console that is not well formed
 well-formed-state : (s : List ℕ) → consoleOk (consoleAt s) ≡ true → isState s ≡ true

@@ -1,5 +1,5 @@
 -- What a console run alone comes to: a refusal's number is from 1 to 31; without one it leaves a well-formed console, its fields of their types.
-use Prim.Native.Nat.{ℕ, _^_, _<_}
+use Prim.Native.Nat.{ℕ}
 use mathlib.Core.Path.{_≡_, refl, sym, ap, subst}
 use mathlib.Core.Bool.{Bool, true, false, true≢false}
 use mathlib.Core.List.{List}
@@ -28,7 +28,7 @@ use Rattle.rules.proofs.Supply.{numbering-lawful}
 use Rattle.rules.proofs.WellFormed.{console-acts-ok}
 use Rattle.ends_console.specs.Fields.{consoleOk}
 use Rattle.ends_console.specs.FieldsAsRules.{consoleMeans, consoleBack}
-use Rattle.numbers.proofs.Range.{number-below, sound-below}
+use Rattle.numbers.proofs.Range.{number-below, Fit, sound-fits}
 use Rattle.ends.specs.AsRules.{forConsole, numberIn}
 use Rattle.ends.specs.Packets.{readForConsole}
 use Rattle.ends.proofs.Reports.{refused-in-rules}
@@ -90,18 +90,18 @@ message-long : (m : List ℕ) → isMessage m ≡ true → length m ≡ 16
 unfolding isMessage
 message-long m h = eqb-true (length m) 16 (and-left (eqb (length m) 16) (cells m) h)
 
--- numbers of the rules fit into their four bytes
-fields-typed : (u : Numbers) (k : rules.ConsoleMode (List ℕ)) (up : Bool) → u < 2 ^ 32 → Console-bears (Given numbering u) (Number numbering) (Good isMessage) k → Typed (consoleBack (record { numbers = u; mode = k; up = up }))
-fields-typed u rules.ConsoleMode.idle up h b = record { used = h; j = omega arith; last = omega arith; message = refl }
-fields-typed u (rules.in-needI j m) up h b = record { used = h; j = number-below j (b .0 .0); last = omega arith; message = message-long m (b .1) }
-fields-typed u (rules.in-send l m) up h b = record { used = h; j = omega arith; last = number-below l (b .0); message = message-long m (b .1) }
+-- numbers of the rules fit into their bytes
+fields-typed : (u : Numbers) (k : rules.ConsoleMode (List ℕ)) (up : Bool) → Fit u → Console-bears (Given numbering u) (Number numbering) (Good isMessage) k → Typed (consoleBack (record { numbers = u; mode = k; up = up }))
+fields-typed u rules.ConsoleMode.idle up h b = record { numbers = h; j = omega arith; last = omega arith; message = refl }
+fields-typed u (rules.in-needI j m) up h b = record { numbers = h; j = number-below j (b .0 .0); last = omega arith; message = message-long m (b .1) }
+fields-typed u (rules.in-send l m) up h b = record { numbers = h; j = omega arith; last = number-below l (b .0); message = message-long m (b .1) }
 
 abbrev pub ConsoleLeft : Console → Type 0
 ConsoleLeft c = (consoleOk c ≡ true) × Typed c
 
 pub fields-left : (e : rules.Console Numbers (List ℕ)) → Console-ok numbering isMessage e → ConsoleLeft (consoleBack e)
 fields-left e w =
-    (console-stands e w .0, fields-typed (e .numbers) (e .mode) (e .up) (sound-below (e .numbers) (w .numbers)) (w .mode))
+    (console-stands e w .0, fields-typed (e .numbers) (e .mode) (e .up) (sound-fits (e .numbers) (w .numbers)) (w .mode))
 
 module _ (c : Console) (typed : ConsoleTyped c) (m packet reply : List ℕ) (bytes : Bytes packet) where
   abbrev Leaves : ConsoleAlone → Type 0

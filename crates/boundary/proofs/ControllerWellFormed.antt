@@ -1,6 +1,6 @@
 -- What a controller run alone comes to: a refusal's number is from 1 to 31; without one it leaves a well-formed controller, its fields of their
 -- types.
-use Prim.Native.Nat.{ℕ, _^_, _<_}
+use Prim.Native.Nat.{ℕ}
 use mathlib.Core.Path.{_≡_, refl, sym, ap, subst}
 use mathlib.Core.Bool.{Bool, true, false, true≢false}
 use mathlib.Core.List.{List}
@@ -29,7 +29,7 @@ use Rattle.rules.proofs.Supply.{numbering-lawful}
 use Rattle.rules.proofs.WellFormed.{controller-acts-ok}
 use Rattle.ends_controller.specs.Fields.{controllerOk}
 use Rattle.ends_controller.specs.FieldsAsRules.{controllerMeans, controllerBack}
-use Rattle.numbers.proofs.Range.{number-below, sound-below}
+use Rattle.numbers.proofs.Range.{number-below, Fit, sound-fits}
 use Rattle.ends.specs.AsRules.{forController, numberIn}
 use Rattle.ends.specs.Packets.{readForController}
 use Rattle.ends.proofs.Reports.{refused-in-rules}
@@ -91,18 +91,18 @@ handed-good packet g ControllerAsk.to-take a e =
 handed-good packet g ControllerAsk.to-go-down a e = subst (Controller-handed-ok numbering isMessage) (sym e) tt
 handed-good packet g ControllerAsk.to-come-back a e = subst (Controller-handed-ok numbering isMessage) (sym e) tt
 
--- numbers of the rules fit into their four bytes
-fields-typed : (u : Numbers) (k : rules.ControllerMode) (up : Bool) → u < 2 ^ 32 → Controller-bears (Number numbering) (Given numbering u) k → Typed (controllerBack (record { numbers = u; mode = k; up = up }))
-fields-typed u rules.ControllerMode.idle up h b = record { used = h; j = omega arith; i = omega arith; last = omega arith }
-fields-typed u (rules.in-accept j i) up h b = record { used = h; j = number-below j (b .0); i = number-below i (b .1 .0); last = omega arith }
-fields-typed u (rules.in-ack l) up h b = record { used = h; j = omega arith; i = omega arith; last = number-below l (b .0) }
+-- numbers of the rules fit into their bytes
+fields-typed : (u : Numbers) (k : rules.ControllerMode) (up : Bool) → Fit u → Controller-bears (Number numbering) (Given numbering u) k → Typed (controllerBack (record { numbers = u; mode = k; up = up }))
+fields-typed u rules.ControllerMode.idle up h b = record { numbers = h; j = omega arith; i = omega arith; last = omega arith }
+fields-typed u (rules.in-accept j i) up h b = record { numbers = h; j = number-below j (b .0); i = number-below i (b .1 .0); last = omega arith }
+fields-typed u (rules.in-ack l) up h b = record { numbers = h; j = omega arith; i = omega arith; last = number-below l (b .0) }
 
 abbrev pub ControllerLeft : Controller → Type 0
 ControllerLeft c = (controllerOk c ≡ true) × Typed c
 
 pub fields-left : (e : rules.Controller Numbers) → Controller-ok numbering e → ControllerLeft (controllerBack e)
 fields-left e w =
-    (controller-stands e w .0, fields-typed (e .numbers) (e .mode) (e .up) (sound-below (e .numbers) (w .numbers)) (w .mode))
+    (controller-stands e w .0, fields-typed (e .numbers) (e .mode) (e .up) (sound-fits (e .numbers) (w .numbers)) (w .mode))
 
 module _ (c : Controller) (typed : ControllerTyped c) (packet reply : List ℕ) (bytes : Bytes packet) where
   abbrev Leaves : ControllerAlone → Type 0

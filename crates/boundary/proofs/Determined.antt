@@ -13,6 +13,8 @@ use Rattle.boundary.proofs.records.nooseless_read_record.Kinds as read-
 use Rattle.boundary.proofs.records.nooseless_read_record.Reads as read-record
 use Rattle.boundary.proofs.records.nooseless_write_record.Kinds as write-record-kinds
 use Rattle.boundary.proofs.records.nooseless_write_record.Reads as write-record
+use Rattle.boundary.proofs.records.nooseless_carry_record.Kinds as carry-record-kinds
+use Rattle.boundary.proofs.records.nooseless_carry_record.Reads as carry-record
 use Rattle.boundary.proofs.console.nooseless_console_fresh.Kinds as console-fresh-kinds
 use Rattle.boundary.proofs.console.nooseless_console_fresh.Reads as console-fresh
 use Rattle.boundary.proofs.console.nooseless_console_downed.Kinds as console-downed-kinds
@@ -50,12 +52,15 @@ read-packet-determined κs a x y s t p q =
 pub write-packet-determined : DeterminedWith write-packet-kinds.ps write-packet-kinds.r write-packet.Post (λ κs s. now (s .0))
 write-packet-determined κs a x y s t p q = (p .0 ∙ sym (q .0), p .1 ∙ sym (q .1))
 
-pub read-record-determined : DeterminedWith read-record-kinds.ps read-record-kinds.r read-record.Post {B = ℕ × ℕ} (λ κs s. (now (s .1 .0), now (s .1 .1 .0)))
+pub read-record-determined : DeterminedWith read-record-kinds.ps read-record-kinds.r read-record.Post {B = ℕ × ℕ × ℕ} (λ κs s. (now (s .1 .0), now (s .1 .1 .0), now (s .1 .1 .1 .0)))
 read-record-determined κs a x y s t p q =
-    let e = p ∙ sym q in (ap (λ (r : RecordOut). r .refusal) e, λ i. (e i .end, e i .number))
+    let e = p ∙ sym q in (ap (λ (r : RecordOut). r .refusal) e, λ i. (e i .end, e i .number, e i .block))
 
 pub write-record-determined : DeterminedWith write-record-kinds.ps write-record-kinds.r write-record.Post (λ κs s. now (s .0))
 write-record-determined κs a x y s t p q = (p .0 ∙ sym (q .0), p .1 ∙ sym (q .1))
+
+pub carry-record-determined : DeterminedWith carry-record-kinds.ps carry-record-kinds.r carry-record.Post (λ κs s. now (s .1 .0))
+carry-record-determined κs a x y s t p q = (p .0 ∙ sym (q .0), p .1 ∙ sym (q .1))
 
 pub console-fresh-determined : DeterminedWith console-fresh-kinds.ps console-fresh-kinds.r console-fresh.Post (λ κs s. now (s .0))
 console-fresh-determined κs a x y s t p q = (p .0 ∙ sym (q .0), p .1 ∙ sym (q .1))

@@ -6,13 +6,13 @@ use mathlib.Core.List.{List}
 use borrow.Author.Tests.{ne-eqb, eq-eqb}
 use lib.ListN.{length}
 use Rattle.ground.specs.Choice.{if_then_else_}
-use Rattle.wire.specs.Record.{endOf, numberOf, recordRead, recordWriteRefusal, recordWritten}
-use Rattle.wire.specs.declared.LastUsed.{LastUsed}
+use Rattle.wire.specs.Record.{endOf, numberOf, blockOf, recordRead, recordWriteRefusal, recordWritten, renewed}
+use Rattle.wire.specs.declared.NumberRecord.{NumberRecord}
 use Rattle.wire.specs.declared.ReadRecord.{ReadRecord}
 use Rattle.wire.specs.declared.ReadRecord.the-variants as read-record
 use Rattle.ends.specs.declared.Report.{Report}
-use Rattle.boundary.specs.declared.state.Last.{Last}
-use Rattle.boundary.specs.State.{isRefusal, lastOf, lastIn, lengthRefusal, written, startRefusal, started, stateRecordRefusal, stateRecordPut}
+use Rattle.boundary.specs.declared.state.Start.{Start}
+use Rattle.boundary.specs.State.{isRefusal, startOf, startIn, lengthRefusal, written, startRefusal, started, stateRecordRefusal, stateRecordPut}
 
 pub length-2 : (n : ℕ) (s : List ℕ) → (length s ≡ n → ⊥) → 2 ≡ lengthRefusal n s
 unfolding lengthRefusal if_then_else_
@@ -43,23 +43,23 @@ pub kept-written : (p : Report) (s w : List ℕ) {r : Bool} {x : List ℕ} → r
 unfolding if_then_else_
 kept-written p s w e f h = rw (← e, f) h
 
--- the last used of a number record
-pub last-own : (end : ℕ) (u : LastUsed) {e n : ℕ} → e ≡ endOf u → e ≡ end → n ≡ numberOf u → _≡_ {A = Last} (record { refusal = 0; number = n }) (lastOf end u)
-unfolding lastOf if_then_else_
-last-own end u {e} f g h = rw (← f, eq-eqb e end g, h)
+-- the last used and the block of a number record
+pub last-own : (end : ℕ) (u : NumberRecord) {e n b : ℕ} → e ≡ endOf u → e ≡ end → n ≡ numberOf u → b ≡ blockOf u → _≡_ {A = Start} (record { refusal = 0; number = n; block = b }) (startOf end u)
+unfolding startOf if_then_else_
+last-own end u {e} f g h k = rw (← f, eq-eqb e end g, h, k)
 
-pub last-other : (end : ℕ) (u : LastUsed) {e : ℕ} → e ≡ endOf u → (e ≡ end → ⊥) → _≡_ {A = Last} (record { refusal = 15; number = 0 }) (lastOf end u)
-unfolding lastOf if_then_else_
+pub last-other : (end : ℕ) (u : NumberRecord) {e : ℕ} → e ≡ endOf u → (e ≡ end → ⊥) → _≡_ {A = Start} (record { refusal = 15; number = 0; block = 0 }) (startOf end u)
+unfolding startOf if_then_else_
 last-other end u {e} f g = rw (← f, ne-eqb e end g)
 
-pub last-refused : (end : ℕ) (s : List ℕ) {r : ReadRecord} {n : ℕ} → r ≡ recordRead s → r ≡ read-record.Refused n → _≡_ {A = Last} (record { refusal = n; number = 0 }) (lastIn end (recordRead s))
+pub last-refused : (end : ℕ) (s : List ℕ) {r : ReadRecord} {n : ℕ} → r ≡ recordRead s → r ≡ read-record.Refused n → _≡_ {A = Start} (record { refusal = n; number = 0; block = 0 }) (startIn end (recordRead s))
 last-refused end s e f = rw (← e, f)
 
-pub last-read : (end : ℕ) (s : List ℕ) {r : ReadRecord} {u : LastUsed} {x : Last} → r ≡ recordRead s → r ≡ read-record.Is u → x ≡ lastOf end u → x ≡ lastIn end (recordRead s)
-last-read end s e f h = rw (← e, f) h
+pub last-read : (end : ℕ) (s : List ℕ) {r : ReadRecord} {u v : NumberRecord} {x : Start} → r ≡ recordRead s → r ≡ read-record.Is u → v ≡ renewed u → x ≡ startOf end v → x ≡ startIn end (recordRead s)
+last-read end s e f g h = rw (← e, f, ← g) h
 
 -- a start: of another length, refused by its record, and done
-module _ (n : ℕ) (s : List ℕ) (last : Last) {l : Last} (e : l ≡ last) where
+module _ (n : ℕ) (s : List ℕ) (last : Start) {l : Start} (e : l ≡ last) where
   pub start-2 : (length s ≡ n → ⊥) → 2 ≡ startRefusal n s last
   unfolding startRefusal if_then_else_
   start-2 h = rw (ne-eqb (length s) n h)
@@ -88,19 +88,19 @@ pub ruleset starts = (start-2, start-n, start-0)
 pub ruleset startings = (started-2, started-n, started-0)
 
 -- the number record of a state
-module _ (ok : Bool) (out : List ℕ) where
-  pub record-2 : ok ≡ false → 2 ≡ stateRecordRefusal ok out
+module _ (ok : Bool) (out : List ℕ) (u : NumberRecord) where
+  pub record-2 : ok ≡ false → 2 ≡ stateRecordRefusal ok u out
   unfolding stateRecordRefusal if_then_else_
   record-2 f = rw f
 
-  pub record-n : {n : ℕ} → ok ≡ true → n ≡ recordWriteRefusal (length out) → n ≡ stateRecordRefusal ok out
+  pub record-n : {v : NumberRecord} {n : ℕ} → ok ≡ true → v ≡ u → n ≡ recordWriteRefusal (length out) v → n ≡ stateRecordRefusal ok u out
   unfolding stateRecordRefusal if_then_else_
-  record-n t e = rw t e
+  record-n t e f = rw (t, ← e) f
 
-  pub record-kept : (u : LastUsed) → ok ≡ false → out ≡ stateRecordPut ok u out
+  pub record-kept : ok ≡ false → out ≡ stateRecordPut ok u out
   unfolding stateRecordPut if_then_else_
-  record-kept u f = rw f
+  record-kept f = rw f
 
-  pub record-put : (u : LastUsed) {v : LastUsed} {x : List ℕ} → ok ≡ true → v ≡ u → x ≡ recordWritten out v → x ≡ stateRecordPut ok u out
+  pub record-put : {v : NumberRecord} {x : List ℕ} → ok ≡ true → v ≡ u → x ≡ recordWritten out v → x ≡ stateRecordPut ok u out
   unfolding stateRecordPut if_then_else_
-  record-put u t e f = rw (t, ← e) f
+  record-put t e f = rw (t, ← e) f

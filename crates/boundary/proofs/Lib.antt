@@ -1,6 +1,7 @@
 pub mod BenchEntries
 pub mod BenchRefusals
 pub mod BenchTrips
+pub mod CarryTrips
 pub mod ConsoleTrips
 pub mod ConsoleWellFormed
 pub mod ControllerTrips
@@ -11,6 +12,7 @@ pub mod EitherEnd
 pub mod EndEntries
 pub mod Flags
 pub mod KeepBit
+pub mod NumbersTrips
 pub mod Reading
 pub mod RefusalNumbers
 pub mod Refusals

@@ -89,7 +89,7 @@ head-at s = head-of (getD s 5 0) (value (field s 8 4)) (value (field s 12 4))
 pub head-number : (s : List ℕ) → Numbered (packetRead s .head)
 unfolding packetRead readRefusal if_then_else_
 head-number s =
-    let small-read = first-small (readRefusals 32 0x4C s (carries (headAt s) (drop 16 s))) refl in
+    let small-read = first-small (readRefusals 32 0x4C 1 s (carries (headAt s) (drop 16 s))) refl in
     by-test (eqb (readRefusal s) 0) (λ t. rw t (head-at s)) (λ f. rw f (above (readRefusal s) (eqb-false (readRefusal s) 0 f), small-read))
 
 -- ## A bench's step

@@ -11,10 +11,10 @@ use Rattle.ground.specs.Choice.{if_then_else_}
 use Rattle.ground.proofs.Promise.{RefusalLeaves}
 use Rattle.ground.proofs.Tests.{by-test}
 use Rattle.wire.specs.Packet.{headOf, packetRead, writeRefusal, packetWritten}
-use Rattle.wire.specs.Record.{lastUsedOf, recordRead, recordWriteRefusal, recordWritten}
+use Rattle.wire.specs.Record.{recordOf, recordRead, recordWriteRefusal, recordWritten}
 use Rattle.wire.specs.declared.I.{I}
 use Rattle.wire.specs.declared.J.{J}
-use Rattle.wire.specs.declared.LastUsed.{LastUsed}
+use Rattle.wire.specs.declared.NumberRecord.{NumberRecord}
 use Rattle.wire.specs.declared.ReadHead.{ReadHead}
 use Rattle.wire.specs.declared.ReadHead.the-variants.{Refused, Is}
 use Rattle.wire.specs.declared.ReadRecord.{ReadRecord}
@@ -22,9 +22,9 @@ use Rattle.wire.specs.declared.ReadRecord.the-variants as read-record
 use Rattle.ends_console.specs.Fields.{consoleOk}
 use Rattle.ends_controller.specs.Fields.{controllerOk}
 use Rattle.bench.specs.Promise.{benchRefused, benchTold, benchFresh}
-use Rattle.boundary.specs.declared.state.Last.{Last}
+use Rattle.boundary.specs.declared.state.Start.{Start}
 use Rattle.boundary.specs.Packets.{PacketOut, headOut, headRefusal, headPut}
-use Rattle.boundary.specs.Records.{RecordOut, recordOut, recordPutRefusal, recordPut}
+use Rattle.boundary.specs.Records.{RecordOut, recordOut, recordPutRefusal, recordPut, inVersion, carryRefusal, carried}
 use Rattle.boundary.specs.State.{marks, lengthRefusal, written, startRefusal, started, stateRecordRefusal, stateRecordPut}
 use Rattle.boundary.specs.Console as console
 use Rattle.boundary.specs.Controller as controller
@@ -37,6 +37,8 @@ use Rattle.boundary.proofs.records.nooseless_read_record.Kinds as read-
 use Rattle.boundary.proofs.records.nooseless_read_record.Reads as reads-record
 use Rattle.boundary.proofs.records.nooseless_write_record.Kinds as write-record-kinds
 use Rattle.boundary.proofs.records.nooseless_write_record.Reads as write-record
+use Rattle.boundary.proofs.records.nooseless_carry_record.Kinds as carry-record-kinds
+use Rattle.boundary.proofs.records.nooseless_carry_record.Reads as carry-record
 use Rattle.boundary.proofs.console.nooseless_console_fresh.Kinds as console-fresh-kinds
 use Rattle.boundary.proofs.console.nooseless_console_fresh.Reads as console-fresh
 use Rattle.boundary.proofs.console.nooseless_console_downed.Kinds as console-downed-kinds
@@ -88,24 +90,34 @@ write-packet-refusal-leaves κs a x s t z p =
 
 -- ## Number records
 
-record-left : (r : ReadRecord) (e n : ℕ) → Refusing (recordOut r e n .refusal) → _≡_ {A = ℕ × ℕ} (recordOut r e n .end, recordOut r e n .number) (e, n)
-record-left (read-record.Refused r) e n z = refl
-record-left (read-record.Is u) e n z = absurd (z refl)
+abbrev fields : RecordOut → ℕ × ℕ × ℕ
+fields r = (r .end, r .number, r .block)
 
-last-kept : (u : LastUsed) (out : List ℕ) → Refusing (recordWriteRefusal (length out)) → recordWritten out u ≡ out
+record-left : (r : ReadRecord) (e n b : ℕ) → Refusing (recordOut r e n b .refusal) → fields (recordOut r e n b) ≡ (e, n, b)
+record-left (read-record.Refused r) e n b z = refl
+record-left (read-record.Is u) e n b z = absurd (z refl)
+
+written-kept : (u : NumberRecord) (out : List ℕ) → Refusing (recordWriteRefusal (length out) u) → recordWritten out u ≡ out
 unfolding recordWritten
-last-kept u out z = left (recordWriteRefusal (length out)) _ out z
+written-kept u out z = left (recordWriteRefusal (length out) u) _ out z
 
-record-kept : (r : ReadRecord) (out : List ℕ) → Refusing (recordPutRefusal (length out) r) → recordPut out r ≡ out
-record-kept (read-record.Refused r) out z = refl
-record-kept (read-record.Is u) out z = last-kept u out z
+record-kept : (r : ReadRecord) (b : ℕ) (out : List ℕ) → Refusing (recordPutRefusal (length out) b r) → recordPut out r ≡ out
+record-kept (read-record.Refused r) b out z = refl
+record-kept (read-record.Is u) b out z = written-kept u out z
 
-pub read-record-refusal-leaves : RefusalLeaves read-record-kinds.ps read-record-kinds.r reads-record.Post (λ κs a. Unit {0}) (λ κs x. Refusing x) {B = ℕ × ℕ} (λ κs a. (now (a .1 .0), now (a .1 .1 .0))) (λ κs x s. (now (s .1 .0), now (s .1 .1 .0)))
+carry-kept : (r : ReadRecord) (to : List ℕ) → Refusing (carryRefusal (length to) r) → carried to r ≡ to
+carry-kept (read-record.Refused r) to z = refl
+carry-kept (read-record.Is u) to z = written-kept (inVersion (length to) u) to z
+
+pub read-record-refusal-leaves : RefusalLeaves read-record-kinds.ps read-record-kinds.r reads-record.Post (λ κs a. Unit {0}) (λ κs x. Refusing x) {B = ℕ × ℕ × ℕ} (λ κs a. (now (a .1 .0), now (a .1 .1 .0), now (a .1 .1 .1 .0))) (λ κs x s. (now (s .1 .0), now (s .1 .1 .0), now (s .1 .1 .1 .0)))
 read-record-refusal-leaves κs a x s t z p =
-    (λ i. (p i .end, p i .number)) ∙ record-left (recordRead (now (a .0))) (now (a .1 .0)) (now (a .1 .1 .0)) (λ e. z (ap (λ (r : RecordOut). r .refusal) p ∙ e))
+    ap fields p ∙ record-left (recordRead (now (a .0))) (now (a .1 .0)) (now (a .1 .1 .0)) (now (a .1 .1 .1 .0)) (λ e. z (ap (λ (r : RecordOut). r .refusal) p ∙ e))
 
 pub write-record-refusal-leaves : RefusalLeaves write-record-kinds.ps write-record-kinds.r write-record.Post (λ κs a. Unit {0}) (λ κs x. Refusing x) (λ κs a. now (a .0)) (λ κs x s. now (s .0))
-write-record-refusal-leaves κs a x s t z p = p .1 ∙ record-kept (lastUsedOf (a .1 .0) (a .1 .1 .0)) (now (a .0)) (λ e. z (p .0 ∙ e))
+write-record-refusal-leaves κs a x s t z p = p .1 ∙ record-kept (recordOf (a .1 .0) (a .1 .1 .0) (a .1 .1 .1 .0)) (a .1 .1 .1 .0) (now (a .0)) (λ e. z (p .0 ∙ e))
+
+pub carry-record-refusal-leaves : RefusalLeaves carry-record-kinds.ps carry-record-kinds.r carry-record.Post (λ κs a. Unit {0}) (λ κs x. Refusing x) (λ κs a. now (a .1 .0)) (λ κs x s. now (s .1 .0))
+carry-record-refusal-leaves κs a x s t z p = p .1 ∙ carry-kept (recordRead (now (a .0))) (now (a .1 .0)) (λ e. z (p .0 ∙ e))
 
 -- ## An end's state: fresh, started after power loss, and its number record. One law for both ends, over the length of a state
 
@@ -113,26 +125,26 @@ fresh-left : (n : ℕ) (s b : List ℕ) → Refusing (lengthRefusal n s) → wri
 unfolding lengthRefusal written if_then_else_
 fresh-left n s b z = by-test (eqb (length s) n) (λ t. absurd (z (rw t))) (λ f. rw f)
 
-start-left : (n : ℕ) (s : List ℕ) (l : Last) (b : List ℕ) → Refusing (startRefusal n s l) → started n s l b ≡ s
+start-left : (n : ℕ) (s : List ℕ) (l : Start) (b : List ℕ) → Refusing (startRefusal n s l) → started n s l b ≡ s
 unfolding started
 start-left n s l b z = left (startRefusal n s l) b s z
 
-state-record-left : (ok : Bool) (u : LastUsed) (out : List ℕ) → Refusing (stateRecordRefusal ok out) → stateRecordPut ok u out ≡ out
+state-record-left : (ok : Bool) (u : NumberRecord) (out : List ℕ) → Refusing (stateRecordRefusal ok u out) → stateRecordPut ok u out ≡ out
 unfolding stateRecordRefusal stateRecordPut if_then_else_
-state-record-left true u out z = last-kept u out z
+state-record-left true u out z = written-kept u out z
 state-record-left false u out z = refl
 
 pub console-fresh-refusal-leaves : RefusalLeaves console-fresh-kinds.ps console-fresh-kinds.r console-fresh.Post (λ κs a. Unit {0}) (λ κs x. Refusing x) (λ κs a. now (a .0)) (λ κs x s. now (s .0))
-console-fresh-refusal-leaves κs a x s t z p = p .1 ∙ fresh-left 30 (now (a .0)) _ (λ e. z (p .0 ∙ e))
+console-fresh-refusal-leaves κs a x s t z p = p .1 ∙ fresh-left 36 (now (a .0)) _ (λ e. z (p .0 ∙ e))
 
 pub controller-fresh-refusal-leaves : RefusalLeaves controller-fresh-kinds.ps controller-fresh-kinds.r controller-fresh.Post (λ κs a. Unit {0}) (λ κs x. Refusing x) (λ κs a. now (a .0)) (λ κs x s. now (s .0))
-controller-fresh-refusal-leaves κs a x s t z p = p .1 ∙ fresh-left 17 (now (a .0)) _ (λ e. z (p .0 ∙ e))
+controller-fresh-refusal-leaves κs a x s t z p = p .1 ∙ fresh-left 23 (now (a .0)) _ (λ e. z (p .0 ∙ e))
 
 pub console-downed-refusal-leaves : RefusalLeaves console-downed-kinds.ps console-downed-kinds.r console-downed.Post (λ κs a. Unit {0}) (λ κs x. Refusing x) (λ κs a. now (a .0)) (λ κs x s. now (s .0))
-console-downed-refusal-leaves κs a x s t z p = p .1 ∙ start-left 30 (now (a .0)) (console.lastAt (now (a .1 .0))) _ (λ e. z (p .0 ∙ e))
+console-downed-refusal-leaves κs a x s t z p = p .1 ∙ start-left 36 (now (a .0)) (console.startAt (now (a .1 .0))) _ (λ e. z (p .0 ∙ e))
 
 pub controller-downed-refusal-leaves : RefusalLeaves controller-downed-kinds.ps controller-downed-kinds.r controller-downed.Post (λ κs a. Unit {0}) (λ κs x. Refusing x) (λ κs a. now (a .0)) (λ κs x s. now (s .0))
-controller-downed-refusal-leaves κs a x s t z p = p .1 ∙ start-left 17 (now (a .0)) (controller.lastAt (now (a .1 .0))) _ (λ e. z (p .0 ∙ e))
+controller-downed-refusal-leaves κs a x s t z p = p .1 ∙ start-left 23 (now (a .0)) (controller.startAt (now (a .1 .0))) _ (λ e. z (p .0 ∙ e))
 
 pub console-record-refusal-leaves : RefusalLeaves console-record-kinds.ps console-record-kinds.r console-record.Post (λ κs a. Unit {0}) (λ κs x. Refusing x) (λ κs a. now (a .1 .0)) (λ κs x s. now (s .1 .0))
 console-record-refusal-leaves κs a x s t z p = p .1 ∙ state-record-left (consoleOk (console.consoleAt (now (a .0)))) _ (now (a .1 .0)) (λ e. z (p .0 ∙ e))
@@ -148,7 +160,7 @@ three r = (r .state, r .out, r .back)
 bench-left : (j : J) (i : I) (s out back : List ℕ) → Refusing (freshPut j i s out back .told) → three (freshPut j i s out back) ≡ (s, out, back)
 unfolding freshPut benchFresh benchTold benchRefused marks if_then_else_
 bench-left j i s out back z =
-    by-test (eqb (length s) 49)
+    by-test (eqb (length s) 61)
     (λ t. by-test (eqb (length out) 2048 && eqb (length back) 2048) (λ u. absurd (z (rw (t, u)))) (λ f. rw (t, f)))
     (λ f. rw f)
 

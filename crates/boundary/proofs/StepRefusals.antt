@@ -31,7 +31,7 @@ unfolding if_then_else_
 console-left s l m packet reply h =
     let a = consoleAlone (console.consoleAt s) l m packet reply in
     let n = console.stepped s a .told in
-    let e = told-refused (a .outcome .report) (a .outcome .sent) (changed (console.consoleAt s .numbers .used) (a .outcome .console .numbers .used)) h in
+    let e = told-refused (a .outcome .report) (a .outcome .sent) (changed (console.consoleAt s .numbers) (a .outcome .console .numbers)) h in
     (n, ap (console.stepped s) (console-refusal-leaves (console.consoleAt s) (console-long s) m reply l packet n e))
 
 pub console-step-refusal-leaves : RefusalLeaves console-kinds.ps console-kinds.r console-step.Post (λ κs a. Unit {0}) (λ κs x. Refusal x) {B = List ℕ × List ℕ} (λ κs a. (now (a .0), now (a .1 .1 .1 .1 .0))) (λ κs x s. (now (s .0), now (s .1 .1 .1 .1 .0)))
@@ -46,7 +46,7 @@ unfolding if_then_else_
 controller-left s l packet reply out h =
     let a = controllerAlone (controller.controllerAt s) l packet reply in
     let n = controller.stepped s out a .told in
-    let e = told-refused (a .outcome .report) (a .outcome .sent) (changed (controller.controllerAt s .numbers .used) (a .outcome .controller .numbers .used)) h in
+    let e = told-refused (a .outcome .report) (a .outcome .sent) (changed (controller.controllerAt s .numbers) (a .outcome .controller .numbers)) h in
     (n, ap (controller.stepped s out) (controller-refusal-leaves (controller.controllerAt s) reply l packet n e))
 
 pub controller-step-refusal-leaves : RefusalLeaves controller-kinds.ps controller-kinds.r controller-step.Post (λ κs a. Unit {0}) (λ κs x. Refusal x) {B = List ℕ × List ℕ × List ℕ} (λ κs a. (now (a .0), now (a .1 .1 .1 .0), now (a .1 .1 .1 .1 .0))) (λ κs x s. (now (s .0), now (s .1 .1 .1 .0), now (s .1 .1 .1 .1 .0)))

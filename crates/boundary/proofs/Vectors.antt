@@ -6,12 +6,15 @@ use mathlib.Core.List.{List, [], _∷_, map}
 use Rattle.ground.specs.Cell.{spaces}
 use Rattle.wire.specs.declared.Head.the-variants as head
 use Rattle.numbers.specs.Numbers.{numbersFresh}
+use Rattle.numbers.specs.declared.Numbers.{Numbers}
 use Rattle.ends_console.specs.Fields.{consoleWith, freshConsole, downedConsole}
 use Rattle.ends_controller.specs.Fields.{controllerWith, freshController, downedController}
 use Rattle.ends.specs.Packets.{zeros}
 use Rattle.ends.specs.declared.Report.{Report}
 use Rattle.ends.specs.declared.Report.the-variants.{Nothing, Delivered, Ok, Lost, Refused}
+use Rattle.ends_console.specs.declared.Mode.{Mode}
 use Rattle.ends_console.specs.declared.Mode.the-variants.{NeedI, Send}
+use Rattle.ends_controller.specs.declared.Mode.the-variants as controller-mode
 use Rattle.ends_controller.specs.declared.Mode.the-variants.{Accept, Ack}
 use Rattle.ends_console.specs.declared.fields.Console.{Console}
 use Rattle.ends_controller.specs.declared.fields.Controller.{Controller}
@@ -46,14 +49,18 @@ told-both = refl
 abbrev console-tells : Console → ℕ → List ℕ → ℕ
 console-tells c l p = console.consoleStep (console.consoleBytes c) l spaces p room .told
 
+-- last used J 1, the first of a block
+abbrev at-1 : Numbers
+at-1 = record { used = 1; reserved = 64; block = 64 }
+
 abbrev needing : Console
-needing = consoleWith (numbersFresh 1) (NeedI (record { 0 = 1 })) true spaces
+needing = consoleWith at-1 (NeedI (record { 0 = 1 })) true spaces
 
 abbrev sending : Console
-sending = consoleWith (numbersFresh 1) (Send (record { 0 = 3 })) true spaces
+sending = consoleWith at-1 (Send (record { 0 = 3 })) true spaces
 
--- P takes a number, and none is left at the last; Q and D send; C and V take none
-pub console-letters-tell : console-tells (freshConsole (record { 0 = 0 })) 0x50 [] ∷ console-tells (freshConsole (record { 0 = 4294967295 })) 0x50 [] ∷ console-tells needing 0x51 [] ∷ console-tells sending 0x44 [] ∷ console-tells sending 0x43 [] ∷ console-tells (downedConsole (record { 0 = 1 })) 0x56 [] ∷ [] ≡ 32 ∷ 8 ∷ 128 ∷ 128 ∷ 0 ∷ 0 ∷ []
+-- P takes the first number of a block, one within it, and none is left at the last; Q and D send; C and V take none
+pub console-letters-tell : console-tells (freshConsole (record { 0 = 0 })) 0x50 [] ∷ console-tells (consoleWith at-1 Mode.Idle true spaces) 0x50 [] ∷ console-tells (freshConsole (record { 0 = 4294967295 })) 0x50 [] ∷ console-tells needing 0x51 [] ∷ console-tells sending 0x44 [] ∷ console-tells sending 0x43 [] ∷ console-tells (downedConsole (numbersFresh 1)) 0x56 [] ∷ [] ≡ 32 ∷ 0 ∷ 8 ∷ 128 ∷ 128 ∷ 0 ∷ 0 ∷ []
 unfolding opened marks console.consoleBytes console.consoleAt console.isState console.fieldsAt
 console-letters-tell = refl
 
@@ -67,18 +74,22 @@ console-packets-tell = refl
 abbrev controller-tells : Controller → ℕ → List ℕ → ℕ
 controller-tells c l p = controller.controllerStep (controller.controllerBytes c) l p room spaces .told
 
+-- last used I 3, the first of a block
+abbrev at-3 : Numbers
+at-3 = record { used = 3; reserved = 66; block = 64 }
+
 abbrev accepting : Controller
-accepting = controllerWith (numbersFresh 3) (Accept (record { 0 = 1 }) (record { 0 = 3 })) true
+accepting = controllerWith at-3 (Accept (record { 0 = 1 }) (record { 0 = 3 })) true
 
 abbrev acking : Controller
-acking = controllerWith (numbersFresh 3) (Ack (record { 0 = 3 })) true
+acking = controllerWith at-3 (Ack (record { 0 = 3 })) true
 
 -- O and K send; X and Y take no number
-pub controller-letters-tell : controller-tells accepting 0x4F [] ∷ controller-tells acking 0x4B [] ∷ controller-tells accepting 0x58 [] ∷ controller-tells (downedController (record { 0 = 3 })) 0x59 [] ∷ [] ≡ 128 ∷ 128 ∷ 0 ∷ 0 ∷ []
+pub controller-letters-tell : controller-tells accepting 0x4F [] ∷ controller-tells acking 0x4B [] ∷ controller-tells accepting 0x58 [] ∷ controller-tells (downedController (numbersFresh 3)) 0x59 [] ∷ [] ≡ 128 ∷ 128 ∷ 0 ∷ 0 ∷ []
 unfolding opened marks controller.controllerBytes controller.controllerAt controller.isState controller.fieldsAt
 controller-letters-tell = refl
 
--- R: needI takes a number; data is delivered and answered with OK, a repeat with nothing, an old one with lost; done is answered with nothing
-pub controller-packets-tell : controller-tells (freshController (record { 0 = 2 })) 0x52 (packet (head.NeedI (record { 0 = 1 })) zeros) ∷ controller-tells accepting 0x52 (packet (head.Data (record { 0 = 3 })) spaces) ∷ controller-tells acking 0x52 (packet (head.Data (record { 0 = 3 })) spaces) ∷ controller-tells acking 0x52 (packet (head.Data (record { 0 = 2 })) spaces) ∷ controller-tells acking 0x52 (packet (head.Done (record { 0 = 3 })) zeros) ∷ [] ≡ 32 ∷ 192 ∷ 0 ∷ 128 ∷ 0 ∷ []
+-- R: needI takes the first number of a block, or one within it; data is delivered and answered with OK, a repeat with nothing, an old one with lost; done is answered with nothing
+pub controller-packets-tell : controller-tells (freshController (record { 0 = 2 })) 0x52 (packet (head.NeedI (record { 0 = 1 })) zeros) ∷ controller-tells (controllerWith at-3 controller-mode.Idle true) 0x52 (packet (head.NeedI (record { 0 = 1 })) zeros) ∷ controller-tells accepting 0x52 (packet (head.Data (record { 0 = 3 })) spaces) ∷ controller-tells acking 0x52 (packet (head.Data (record { 0 = 3 })) spaces) ∷ controller-tells acking 0x52 (packet (head.Data (record { 0 = 2 })) spaces) ∷ controller-tells acking 0x52 (packet (head.Done (record { 0 = 3 })) zeros) ∷ [] ≡ 32 ∷ 0 ∷ 192 ∷ 0 ∷ 128 ∷ 0 ∷ []
 unfolding opened marks controller.controllerBytes controller.controllerAt controller.isState controller.fieldsAt
 controller-packets-tell = refl

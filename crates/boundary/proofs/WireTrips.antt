@@ -1,20 +1,15 @@
 -- Packets and number records in C's hands: what is written reads back to the same numbers, and what is accepted is written back to the same bytes.
 use Prim.Native.Nat.{ℕ, _^_, _<_}
 use mathlib.Core.Path.{_≡_, refl, sym, ap, _∙_}
-use mathlib.Core.Bool.{Bool, true, false, false≢true}
+use mathlib.Core.Bool.{Bool, true, false}
 use mathlib.Core.List.{List}
-use native.Mathlib.Omega.{arith}
-use borrow.Author.Tests.{eq-eqb, eqb-true, eqb-false}
 use lib.ListN.{length}
 use lib.Dec.{eqb}
 use Rattle.ground.specs.Bytes.{Bytes}
 use Rattle.ground.specs.Choice.{if_then_else_}
-use Rattle.ground.specs.First.{first}
 use Rattle.ground.proofs.Promise.{unequal}
-use Rattle.ground.proofs.Tests.{by-test}
 use Rattle.wire.specs.Packet.{headOf, packetRead}
-use Rattle.wire.specs.Record.{endOf, recordBytes, lastUsedOf, lastUsedAt, isRead, recordRefusal, recordRead, recordWriteRefusal, recordWritten}
-use Rattle.wire.specs.declared.LastUsed.{LastUsed}
+use Rattle.wire.specs.Record.{recordOf, recordRead, recordWriteRefusal}
 use Rattle.wire.specs.declared.Packet.{Packet}
 use Rattle.wire.specs.declared.ReadHead.{ReadHead}
 use Rattle.wire.specs.declared.ReadHead.the-variants.{Refused, Is}
@@ -22,14 +17,14 @@ use Rattle.wire.specs.declared.ReadPacket.{ReadPacket}
 use Rattle.wire.specs.declared.ReadRecord.{ReadRecord}
 use Rattle.wire.specs.declared.ReadRecord.the-variants as read-record
 use Rattle.wire.proofs.PacketsFit.{Typed}
-use Rattle.wire.proofs.Frames.{framed}
 use Rattle.wire.proofs.Heads.{own-head, says}
 use Rattle.wire.proofs.Outcomes.{accepted-is, read-numbered, head-refused}
-use Rattle.wire.proofs.RecordTrips.{own-record, record-says, record-read-back, record-write-back}
+use Rattle.wire.proofs.RecordTrips.{own-record, made, record-read-back, record-refused, loaded}
+use Rattle.wire.proofs.RecordWriting.{record-writable, record-fits, record-put}
 use Rattle.wire.proofs.Trips.{read-back, taken}
 use Rattle.wire.proofs.Writing.{writable, written-fits, packet-written}
 use Rattle.boundary.specs.Packets.{PacketOut, headOut, packetOut, headRefusal, headPut}
-use Rattle.boundary.specs.Records.{RecordOut, recordOut, recordPutRefusal, recordPut}
+use Rattle.boundary.specs.Records.{RecordOut, recordOut, lengthWith, recordPutRefusal, recordPut}
 
 -- what no line of the table has is refused
 no-line : (b : Bool) → _≡_ {A = ℕ} (if b then 15 else 12) 0 → ⊥
@@ -76,54 +71,33 @@ module _ (s : List ℕ) (bytes : Bytes s) (k a b : ℕ) (m : List ℕ) where
 
 -- ## Number records
 
-record-put : (u : LastUsed) (out : List ℕ) → length out ≡ 12 → recordWritten out u ≡ recordBytes u
-unfolding recordWritten recordWriteRefusal first if_then_else_
-record-put u out l = rw (eq-eqb (length out) 12 l)
+module _ (e n b : ℕ) (typed : n < 2 ^ 32) (out : List ℕ) (e₀ n₀ b₀ : ℕ) where
+  of-made : (x : ReadRecord) → recordOf e n b ≡ x → recordPutRefusal (length out) b x ≡ 0 → recordOut (recordRead (recordPut out x)) e₀ n₀ b₀ ≡ record { refusal = 0; end = e; number = n; block = b }
+  of-made (read-record.Refused r) q z = absurd (no-line (eqb (length out) (lengthWith b)) z)
+  of-made (read-record.Is u) q z =
+      let m = made e n b q in
+      let w = record-fits u (length out) z in
+      ap (λ (x : ReadRecord). recordOut x e₀ n₀ b₀) (ap recordRead (record-put out u z) ∙ record-read-back u (rw (m .number) at typed) (w .1))
+      ∙ λ i. record { refusal = 0; end = sym (m .end) i; number = sym (m .number) i; block = sym (m .block) i }
 
-written-long : (n : ℕ) → recordWriteRefusal n ≡ 0 → n ≡ 12
-unfolding recordWriteRefusal first if_then_else_
-written-long n z = by-test (eqb n 12) (λ t. eqb-true n 12 t) (λ f. let y : _≡_ {A = ℕ} 12 0 = rw f at z in absurd (omega (arith, y)))
+  pub record-reads-back : recordPutRefusal (length out) b (recordOf e n b) ≡ 0 → recordOut (recordRead (recordPut out (recordOf e n b))) e₀ n₀ b₀ ≡ record { refusal = 0; end = e; number = n; block = b }
+  record-reads-back z = of-made (recordOf e n b) refl z
 
-written-12 : recordWriteRefusal 12 ≡ 0
-unfolding recordWriteRefusal first if_then_else_
-written-12 = refl
-
--- a refusal's number is not 0
-record-refused : (s : List ℕ) {r : ℕ} → recordRead s ≡ read-record.Refused r → r ≡ 0 → ⊥
-unfolding recordRead recordRefusal if_then_else_
-record-refused s {r} q z =
-    by-test (eqb (recordRefusal s) 0)
-    (λ t.
-    let u : lastUsedAt s ≡ read-record.Refused r = rw t at q in
-    let g = framed 12 0x4E s (isRead (lastUsedAt s)) (eqb-true (recordRefusal s) 0 t) in
-    false≢true (rw u at (g .fields)))
-    (λ f. let u : read-record.Refused (recordRefusal s) ≡ read-record.Refused r = rw f at q in let same : recordRefusal s ≡ r = cc in eqb-false (recordRefusal s) 0 f (same ∙ z))
-
-module _ (e n : ℕ) (typed : n < 2 ^ 32) (out : List ℕ) (e₀ n₀ : ℕ) where
-  of-last : (x : ReadRecord) → lastUsedOf e n ≡ x → recordPutRefusal (length out) x ≡ 0 → recordOut (recordRead (recordPut out x)) e₀ n₀ ≡ record { refusal = 0; end = e; number = n }
-  of-last (read-record.Refused r) q z = absurd (no-line (eqb (length out) 12) z)
-  of-last (read-record.Is u) q z =
-      let v = record-says e n q in
-      let t = rw (v .1) at typed in
-      ap (λ (x : ReadRecord). recordOut x e₀ n₀) (ap recordRead (record-put u out (written-long (length out) z)) ∙ record-read-back u t)
-      ∙ λ i. record { refusal = 0; end = sym (eqb-true e (endOf u) (v .0)) i; number = sym (v .1) i }
-
-  pub record-reads-back : recordPutRefusal (length out) (lastUsedOf e n) ≡ 0 → recordOut (recordRead (recordPut out (lastUsedOf e n))) e₀ n₀ ≡ record { refusal = 0; end = e; number = n }
-  record-reads-back z = of-last (lastUsedOf e n) refl z
-
--- written to any 12 bytes
+-- written to any bytes, as many as were read
 pub record RecordBack (s : List ℕ) (r : RecordOut) : Type 0 where
-  pub taken : recordPutRefusal 12 (lastUsedOf (r .end) (r .number)) ≡ 0
-  pub same : (out : List ℕ) → length out ≡ 12 → recordPut out (lastUsedOf (r .end) (r .number)) ≡ s
+  pub taken : recordPutRefusal (length s) (r .block) (recordOf (r .end) (r .number) (r .block)) ≡ 0
+  pub same : (out : List ℕ) → length out ≡ length s → recordPut out (recordOf (r .end) (r .number) (r .block)) ≡ s
 
-module _ (s : List ℕ) (bytes : Bytes s) (e n : ℕ) where
-  of-record : (x : ReadRecord) → recordRead s ≡ x → recordOut x e n .refusal ≡ 0 → RecordBack s (recordOut x e n)
-  of-record (read-record.Refused r) q z = absurd (record-refused s q z)
+module _ (s : List ℕ) (bytes : Bytes s) (e n b : ℕ) where
+  of-record : (x : ReadRecord) → recordRead s ≡ x → recordOut x e n b .refusal ≡ 0 → RecordBack s (recordOut x e n b)
+  of-record (read-record.Refused r) q z = absurd (record-refused s q .1 z)
   of-record (read-record.Is u) q z =
+      let l = loaded s bytes q in
+      let w : recordWriteRefusal (length s) u ≡ 0 = rw (l .long) (record-writable u (l .good)) in
       record {
-        taken = rw (own-record u) written-12;
-        same = λ out l. rw (own-record u) (record-put u out l ∙ record-write-back s bytes q);
+        taken = rw (own-record u (l .good)) w;
+        same = λ out k. rw (own-record u (l .good)) (record-put out u (rw k w) ∙ l .same);
       }
 
-  pub record-writes-back : recordOut (recordRead s) e n .refusal ≡ 0 → RecordBack s (recordOut (recordRead s) e n)
+  pub record-writes-back : recordOut (recordRead s) e n b .refusal ≡ 0 → RecordBack s (recordOut (recordRead s) e n b)
   record-writes-back z = of-record (recordRead s) refl z

@@ -16,12 +16,13 @@ use Rattle.ground.specs.Every.{filled}
 use Rattle.ground.proofs.Promise.{RulesOut}
 use Rattle.wire.specs.Number.{bytesOf, value}
 use Rattle.wire.proofs.Vectors.{needI-1, needI-1-read}
-use Rattle.rules.specs.Supply.{next-counted}
+use Rattle.rules.specs.Supply.{numbers-rules}
 use Rattle.rules.specs.Letters.{line, letters, among, letter}
 use Rattle.rules.specs.Ends as rules
 use Rattle.numbers.specs.Numbers.{numbersFresh}
 use Rattle.ends_console.specs.Fields.{consoleOk, consoleMode, freshConsole, consoleWith}
 use Rattle.ends_controller.specs.Fields.{controllerOk, controllerMode, freshController, downedController}
+use Rattle.ends_console.specs.declared.Mode.{Mode}
 use Rattle.ends_console.specs.declared.Mode.the-variants.{NeedI}
 use Rattle.alone.specs.ConsoleAlone.{consoleActs, consoleAlone}
 use Rattle.alone.specs.ControllerAlone.{controllerActs, controllerLent, controllerAlone}
@@ -41,10 +42,10 @@ abbrev fresh-console : List ℕ
 fresh-console = console.consoleBytes (freshConsole (record { 0 = 0 }))
 
 abbrev putting : List ℕ
-putting = console.consoleBytes (consoleWith (numbersFresh 1) (NeedI (record { 0 = 1 })) true spaces)
+putting = console.consoleBytes (consoleWith (record { used = 1; reserved = 64; block = 64 }) (NeedI (record { 0 = 1 })) true spaces)
 
 put-told : (packet reply : List ℕ) → console.consoleStep fresh-console 0x50 spaces packet reply ≡ record { told = 32; state = putting; reply = reply }
-unfolding console.consoleBytes console.consoleAt console.isState console.fieldsAt marks written bytesOf value consoleAlone consoleOk consoleMode consoleActs rules.ends next-counted isMessage cells filled line letters among letter
+unfolding console.consoleBytes console.consoleAt console.isState console.fieldsAt marks written bytesOf value consoleAlone consoleOk consoleMode consoleActs rules.ends numbers-rules isMessage cells filled line letters among letter
 put-told packet reply = refl
 
 module _ (κs : Lfts 4) (a : Dens κs console-kinds.ps) (n : ℕ) (s : AtExit (endedOf 4 console-kinds.ps console-kinds.r) κs) (fresh : now (a .0) ≡ fresh-console) (puts : a .1 .0 ≡ 0x50) (message : now (a .1 .1 .0) ≡ spaces) (meets : console-step.Post κs a n s) where
@@ -59,12 +60,12 @@ module _ (κs : Lfts 4) (a : Dens κs console-kinds.ps) (n : ℕ) (s : AtExit (e
   unfolding console.consoleBytes bytesOf
   console-changes-nothing e =
       let q : putting ≡ fresh-console = sym (ap (λ (r : console.ConsoleStep). r .state) put-so) ∙ e ∙ fresh in
-      let z : _≡_ {A = ℕ} 1 0 = ap (λ (l : List ℕ). getD l 12 0) q in
+      let z : _≡_ {A = ℕ} 1 0 = ap (λ (l : List ℕ). getD l 18 0) q in
       omega (arith, z)
 
 -- no bytes at all are a state that is not well formed
 untrusted-told : (packet reply : List ℕ) → console.consoleStep [] 0x50 spaces packet reply ≡ record { told = 2; state = []; reply = reply }
-unfolding console.consoleAt console.isState written consoleAlone consoleOk consoleMode consoleActs rules.ends next-counted isMessage cells filled line letters among letter
+unfolding console.consoleAt console.isState written consoleAlone consoleOk consoleMode consoleActs rules.ends numbers-rules isMessage cells filled line letters among letter
 untrusted-told packet reply = refl
 
 module _ (κs : Lfts 4) (a : Dens κs console-kinds.ps) (n : ℕ) (s : AtExit (endedOf 4 console-kinds.ps console-kinds.r) κs) (none : now (a .0) ≡ []) (puts : a .1 .0 ≡ 0x50) (message : now (a .1 .1 .0) ≡ spaces) (meets : console-step.Post κs a n s) where
@@ -76,7 +77,7 @@ module _ (κs : Lfts 4) (a : Dens κs console-kinds.ps) (n : ℕ) (s : AtExit (e
 pub console-changed-by-a-refusal : RulesOut console-kinds.ps console-kinds.r console-step.Post (λ κs a. Unit {0}) (λ κs a x s. Refusal x × (now (s .0) ≡ now (a .0) → ⊥))
 console-changed-by-a-refusal κs a x s e w p = w .1 (ap (λ (r : List ℕ × List ℕ). r .0) (console-step-refusal-leaves κs a x s tt (w .0) p))
 
--- a put takes a number, what is refused takes none, and going down takes none
+-- a put takes the first number of a block, what is refused takes none, and going down takes none
 pub console-never-says-keep : RulesOut console-kinds.ps console-kinds.r console-step.Post (λ κs a. (now (a .0) ≡ fresh-console) × (a .1 .0 ≡ 0x50) × (now (a .1 .1 .0) ≡ spaces)) (λ κs a x s. keeps x ≡ false)
 console-never-says-keep κs a x s e w p = true≢false (sym (ap (λ (r : console.ConsoleStep). keeps (r .told)) (put-so κs a x s (e .0) (e .1) (e .2) p)) ∙ w)
 
@@ -84,12 +85,25 @@ pub console-keeps-a-refusal : RulesOut console-kinds.ps console-kinds.r console-
 console-keeps-a-refusal κs a x s e w p = console-trusts κs a x s (e .0) (e .1) (e .2) p (λ q. true≢false (sym w ∙ ap keeps q))
 
 fall-told : (message packet reply : List ℕ) → console.consoleStep fresh-console 0x43 message packet reply .told ≡ 0
-unfolding console.consoleBytes console.consoleAt console.isState console.fieldsAt marks written bytesOf value consoleAlone consoleOk consoleMode consoleActs rules.ends next-counted isMessage cells filled line letters among letter
+unfolding console.consoleBytes console.consoleAt console.isState console.fieldsAt marks written bytesOf value consoleAlone consoleOk consoleMode consoleActs rules.ends numbers-rules isMessage cells filled line letters among letter
 fall-told message packet reply = refl
 
 pub console-keeps-of-no-number : RulesOut console-kinds.ps console-kinds.r console-step.Post (λ κs a. (now (a .0) ≡ fresh-console) × (a .1 .0 ≡ 0x43)) (λ κs a x s. keeps x ≡ true)
 console-keeps-of-no-number κs a x s e w p =
     let q = ap (λ (r : console.ConsoleStep). r .told) (p ∙ (λ i. console.consoleStep (e .0 i) (e .1 i) (now (a .1 .1 .0)) (now (a .1 .1 .1 .0)) (now (a .1 .1 .1 .1 .0)))) ∙ fall-told (now (a .1 .1 .0)) (now (a .1 .1 .1 .0)) (now (a .1 .1 .1 .1 .0)) in
+    true≢false (sym w ∙ ap keeps q)
+
+-- a put within the block: the flash would wear as before
+abbrev within : List ℕ
+within = console.consoleBytes (consoleWith (record { used = 1; reserved = 64; block = 64 }) Mode.Idle true spaces)
+
+within-told : (packet reply : List ℕ) → console.consoleStep within 0x50 spaces packet reply .told ≡ 0
+unfolding console.consoleBytes console.consoleAt console.isState console.fieldsAt marks written bytesOf value consoleAlone consoleOk consoleMode consoleActs rules.ends numbers-rules isMessage cells filled line letters among letter
+within-told packet reply = refl
+
+pub console-keeps-within-the-block : RulesOut console-kinds.ps console-kinds.r console-step.Post (λ κs a. (now (a .0) ≡ within) × (a .1 .0 ≡ 0x50) × (now (a .1 .1 .0) ≡ spaces)) (λ κs a x s. keeps x ≡ true)
+console-keeps-within-the-block κs a x s e w p =
+    let q = ap (λ (r : console.ConsoleStep). r .told) (p ∙ (λ i. console.consoleStep (e .0 i) (e .1 i) (e .2 i) (now (a .1 .1 .1 .0)) (now (a .1 .1 .1 .1 .0)))) ∙ within-told (now (a .1 .1 .1 .0)) (now (a .1 .1 .1 .1 .0)) in
     true≢false (sym w ∙ ap keeps q)
 
 -- ## A controller: X, fresh
@@ -98,7 +112,7 @@ abbrev fresh-controller : List ℕ
 fresh-controller = controller.controllerBytes (freshController (record { 0 = 0 }))
 
 abbrev down : List ℕ
-down = controller.controllerBytes (downedController (record { 0 = 0 }))
+down = controller.controllerBytes (downedController (numbersFresh 0))
 
 down-told : (packet reply out : List ℕ) → controller.controllerStep fresh-controller 0x58 packet reply out ≡ record { told = 0; state = down; reply = reply; delivered = out }
 unfolding controller.controllerBytes controller.controllerAt controller.isState controller.fieldsAt marks written bytesOf value controllerAlone controllerOk controllerMode controllerActs rules.ends line letters among letter
@@ -115,15 +129,15 @@ module _ (κs : Lfts 4) (a : Dens κs controller-kinds.ps) (n : ℕ) (s : AtExit
   unfolding controller.controllerBytes bytesOf
   controller-changes-nothing e =
       let q : down ≡ fresh-controller = sym (ap (λ (r : controller.ControllerStep). r .state) down-so) ∙ e ∙ fresh in
-      let z : _≡_ {A = ℕ} 0 1 = ap (λ (l : List ℕ). getD l 16 0) q in
+      let z : _≡_ {A = ℕ} 0 1 = ap (λ (l : List ℕ). getD l 22 0) q in
       omega (arith, z)
 
 pub controller-changed-by-a-refusal : RulesOut controller-kinds.ps controller-kinds.r controller-step.Post (λ κs a. Unit {0}) (λ κs a x s. Refusal x × (now (s .0) ≡ now (a .0) → ⊥))
 controller-changed-by-a-refusal κs a x s e w p = w .1 (ap (λ (r : List ℕ × List ℕ × List ℕ). r .0) (controller-step-refusal-leaves κs a x s tt (w .0) p))
 
--- needI takes a number, what is refused takes none, and going down takes none
+-- needI takes the first number of a block, what is refused takes none, and going down takes none
 need-told : (out : List ℕ) → controller.controllerStep fresh-controller 0x52 needI-1 (replicate 32 0) out .told ≡ 32
-unfolding controller.controllerBytes controller.controllerAt controller.isState controller.fieldsAt marks written bytesOf value controllerAlone controllerOk controllerMode controllerActs controllerLent rules.ends next-counted line letters among letter
+unfolding controller.controllerBytes controller.controllerAt controller.isState controller.fieldsAt marks written bytesOf value controllerAlone controllerOk controllerMode controllerActs controllerLent rules.ends numbers-rules line letters among letter
 need-told out = rw needI-1-read
 
 pub controller-never-says-keep : RulesOut controller-kinds.ps controller-kinds.r controller-step.Post (λ κs a. (now (a .0) ≡ fresh-controller) × (a .1 .0 ≡ 0x52) × (now (a .1 .1 .0) ≡ needI-1) × (now (a .1 .1 .1 .0) ≡ replicate 32 0)) (λ κs a x s. keeps x ≡ false)

@@ -25,7 +25,6 @@ use Rattle.wire.specs.Packet.{packetBytes}
 use Rattle.rules.specs.Letters.{line, letters, among, letter}
 use Rattle.rules.specs.Ends.{needI}
 use Rattle.rules.specs.Bench as rules
-use Rattle.numbers.specs.Numbers.{numbersFresh}
 use Rattle.ends_console.specs.Fields.{consoleOk, consoleMode, consoleWith}
 use Rattle.ends_controller.specs.Fields.{controllerOk, controllerMode, freshController}
 use Rattle.ends_console.specs.declared.Mode.the-variants.{NeedI}
@@ -58,7 +57,7 @@ clear = replicate 2048 0
 abbrev asking : ℕ → Bench
 asking sent =
     record {
-      console = consoleWith (numbersFresh 1) (NeedI (record { 0 = 1 })) true spaces;
+      console = consoleWith (record { used = 1; reserved = 64; block = 64 }) (NeedI (record { 0 = 1 })) true spaces;
       controller = freshController (record { 0 = 0 });
       sent = sent;
       returned = 0;
@@ -113,14 +112,14 @@ module _ (κs : Lfts 5) (a : Dens κs step-kinds.ps) (n : ℕ) (s : AtExit (ende
   unfolding benchBytes console.consoleBytes controller.controllerBytes bytesOf
   step-leaves-the-state e =
       let q : benchBytes (asking 1) ≡ benchBytes (asking 0) = sym (ap (λ (r : StepPut). r .state) so) ∙ e ∙ state in
-      let z : _≡_ {A = ℕ} 1 0 = ap (λ (l : List ℕ). getD l 47 0) q in
+      let z : _≡_ {A = ℕ} 1 0 = ap (λ (l : List ℕ). getD l 59 0) q in
       omega (arith, z)
 
   -- the packet that was sent counted as one that was returned
-  pub step-swaps-the-counts : getD (now (s .0)) 48 0 ≡ 1 → ⊥
+  pub step-swaps-the-counts : getD (now (s .0)) 60 0 ≡ 1 → ⊥
   unfolding benchBytes console.consoleBytes controller.controllerBytes bytesOf
   step-swaps-the-counts e =
-      let z : _≡_ {A = ℕ} 1 0 = sym e ∙ ap (λ (r : StepPut). getD (r .state) 48 0) so in omega (arith, z)
+      let z : _≡_ {A = ℕ} 1 0 = sym e ∙ ap (λ (r : StepPut). getD (r .state) 60 0) so in omega (arith, z)
 
   pub step-leaves-the-tables : now (s .1 .0) ≡ now (a .1 .0) → ⊥
   step-leaves-the-tables e =
@@ -140,13 +139,13 @@ module _ (κs : Lfts 5) (a : Dens κs step-kinds.ps) (n : ℕ) (s : AtExit (ende
 pub step-changed-by-a-refusal : RulesOut step-kinds.ps step-kinds.r step.Post (λ κs a. Bytes (now (a .0)) × Bytes (now (a .1 .0)) × Bytes (now (a .1 .1 .0))) (λ κs a x s. Refusal x × (now (s .0) ≡ now (a .0) → ⊥))
 step-changed-by-a-refusal κs a x s e w p = w .1 (ap (λ (r : List ℕ × List ℕ × List ℕ × List ℕ). r .0) (bench-step-refusal-leaves κs a x s e (w .0) p))
 
--- ## Fresh: with a state of 49 bytes and tables of 2,048
+-- ## Fresh: with a state of 61 bytes and tables of 2,048
 
-fresh-clears : (j : J) (i : I) (s out back : List ℕ) → length s ≡ 49 → length out ≡ 2048 → length back ≡ 2048 → (freshPut j i s out back .told ≡ 0) × (freshPut j i s out back .out ≡ clear) × (freshPut j i s out back .back ≡ clear)
+fresh-clears : (j : J) (i : I) (s out back : List ℕ) → length s ≡ 61 → length out ≡ 2048 → length back ≡ 2048 → (freshPut j i s out back .told ≡ 0) × (freshPut j i s out back .out ≡ clear) × (freshPut j i s out back .back ≡ clear)
 unfolding freshPut benchFresh benchTold rules.fresh channel laid marks if_then_else_
-fresh-clears j i s out back l m n = rw (eq-eqb (length s) 49 l, eq-eqb (length out) 2048 m, eq-eqb (length back) 2048 n) (refl, refl, refl)
+fresh-clears j i s out back l m n = rw (eq-eqb (length s) 61 l, eq-eqb (length out) 2048 m, eq-eqb (length back) 2048 n) (refl, refl, refl)
 
-module _ (κs : Lfts 3) (a : Dens κs fresh-kinds.ps) (n : ℕ) (s : AtExit (endedOf 3 fresh-kinds.ps fresh-kinds.r) κs) (state-long : length (now (a .0)) ≡ 49) (out-long : length (now (a .1 .0)) ≡ 2048) (back-long : length (now (a .1 .1 .0)) ≡ 2048) (meets : fresh.Post κs a n s) where
+module _ (κs : Lfts 3) (a : Dens κs fresh-kinds.ps) (n : ℕ) (s : AtExit (endedOf 3 fresh-kinds.ps fresh-kinds.r) κs) (state-long : length (now (a .0)) ≡ 61) (out-long : length (now (a .1 .0)) ≡ 2048) (back-long : length (now (a .1 .1 .0)) ≡ 2048) (meets : fresh.Post κs a n s) where
   cleared : (n ≡ 0) × (now (s .1 .0) ≡ clear) × (now (s .1 .1 .0) ≡ clear)
   cleared =
       let e = fresh-clears (record { 0 = a .1 .1 .1 .0 }) (record { 0 = a .1 .1 .1 .1 .0 }) (now (a .0)) (now (a .1 .0)) (now (a .1 .1 .0)) state-long out-long back-long in
@@ -164,13 +163,13 @@ module _ (κs : Lfts 3) (a : Dens κs fresh-kinds.ps) (n : ℕ) (s : AtExit (end
 
 -- ## Showing: two packets on their way to the controller, none to the console
 
-module _ (s out back : List ℕ) (l : length s ≡ 49) (two : getD s 47 0 ≡ 2) (none : getD s 48 0 ≡ 0) (m : length out ≡ 2048) (k : length back ≡ 2048) where
+module _ (s out back : List ℕ) (l : length s ≡ 61) (two : getD s 59 0 ≡ 2) (none : getD s 60 0 ≡ 0) (m : length out ≡ 2048) (k : length back ≡ 2048) where
   -- the second, a third, and the second to the console
   show-told : (showAt s out back 2 1 ≡ 0) × (showAt s out back 2 2 ≡ 3) × (showAt s out back 1 1 ≡ 3)
   unfolding showAt showTo showRefusal first if_then_else_
   show-told = rw (l, two, none, m, k) (refl, refl, refl)
 
-module _ (κs : Lfts 4) (a : Dens κs show-kinds.ps) (n : ℕ) (s : AtExit (endedOf 4 show-kinds.ps show-kinds.r) κs) (l : length (now (a .0)) ≡ 49) (two : getD (now (a .0)) 47 0 ≡ 2) (none : getD (now (a .0)) 48 0 ≡ 0) (m : length (now (a .1 .0)) ≡ 2048) (k : length (now (a .1 .1 .0)) ≡ 2048) (meets : show.Post κs a n s) where
+module _ (κs : Lfts 4) (a : Dens κs show-kinds.ps) (n : ℕ) (s : AtExit (endedOf 4 show-kinds.ps show-kinds.r) κs) (l : length (now (a .0)) ≡ 61) (two : getD (now (a .0)) 59 0 ≡ 2) (none : getD (now (a .0)) 60 0 ≡ 0) (m : length (now (a .1 .0)) ≡ 2048) (k : length (now (a .1 .1 .0)) ≡ 2048) (meets : show.Post κs a n s) where
   abbrev at : ℕ → ℕ → ℕ
   at end place = showAt (now (a .0)) (now (a .1 .0)) (now (a .1 .1 .0)) end place
 

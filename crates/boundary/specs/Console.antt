@@ -1,4 +1,4 @@
--- A console's state as 30 bytes, and what each entry for it does. Assumes nothing.
+-- A console's state as 36 bytes, and what each entry for it does. Assumes nothing.
 use Prim.Native.Nat.{ℕ}
 use mathlib.Core.Bool.{Bool, false, _&&_}
 use mathlib.Core.List.{List, [], _∷_, _++_}
@@ -9,56 +9,57 @@ use Rattle.ground.specs.Cell.{spaces}
 use Rattle.wire.specs.Frame.{field}
 use Rattle.wire.specs.Number.{bytesOf, value}
 use Rattle.wire.specs.Record.{recordRead}
-use Rattle.wire.specs.declared.LastUsed.{LastUsed}
-use Rattle.wire.specs.declared.LastUsed.the-variants as last-used
-use Rattle.ends_console.specs.Fields.{lastUsedJ, downedConsole}
+use Rattle.wire.specs.declared.NumberRecord.{NumberRecord}
+use Rattle.wire.specs.declared.NumberRecord.the-variants as number-record
+use Rattle.numbers.specs.Numbers.{numbersKept, numbersFresh}
+use Rattle.ends_console.specs.Fields.{downedConsole}
 use Rattle.ends_console.specs.declared.fields.Console.{Console}
 use Rattle.alone.specs.ConsoleAlone.{ConsoleAlone, consoleAlone}
-use Rattle.boundary.specs.declared.state.Last.{Last}
-use Rattle.boundary.specs.State.{flag, isRefusal, changed, told, lastIn, written}
+use Rattle.boundary.specs.declared.state.Start.{Start}
+use Rattle.boundary.specs.State.{numbersBytes, numbersAt, flag, isRefusal, changed, told, startIn, written}
 
--- 0-3 last used J; 4-7 j; 8-11 last; 12 held; 13 up. Numbers big-endian, flags 0 or 1
+-- 0-9 its numbers, of J; 10-13 j; 14-17 last; 18 held; 19 up. Flags are 0 or 1
 abbrev pub front : Console → List ℕ
-front c = bytesOf 4 (c .numbers .used) ++ (bytesOf 4 (c .j .0) ++ (bytesOf 4 (c .last .0) ++ (flag (c .held) ∷ flag (c .up) ∷ [])))
+front c = numbersBytes (c .numbers) ++ (bytesOf 4 (c .j .0) ++ (bytesOf 4 (c .last .0) ++ (flag (c .held) ∷ flag (c .up) ∷ [])))
 
--- 14-29 message
+-- 20-35 message
 unfoldable pub consoleBytes : Console → List ℕ
 consoleBytes c = front c ++ c .message
 
--- 30 bytes with two flags
+-- 36 bytes with two flags
 unfoldable pub isState : List ℕ → Bool
-isState s = eqb (length s) 30 && leb (getD s 12 0) 1 && leb (getD s 13 0) 1
+isState s = eqb (length s) 36 && leb (getD s 18 0) 1 && leb (getD s 19 0) 1
 
 unfoldable pub fieldsAt : List ℕ → Console
 fieldsAt s =
     record {
-      numbers = record { used = value (field s 0 4) };
-      held = eqb (getD s 12 0) 1;
-      message = drop 14 s;
-      j = record { 0 = value (field s 4 4) };
-      last = record { 0 = value (field s 8 4) };
-      up = eqb (getD s 13 0) 1;
+      numbers = numbersAt s;
+      held = eqb (getD s 18 0) 1;
+      message = drop 20 s;
+      j = record { 0 = value (field s 10 4) };
+      last = record { 0 = value (field s 14 4) };
+      up = eqb (getD s 19 0) 1;
     }
 
 -- what bytes that are no state stand for: fields that contradict each other, a j with no message held
 abbrev pub noConsole : Console
 noConsole =
-    record { numbers = record { used = 0 }; held = false; message = spaces; j = record { 0 = 1 }; last = record { 0 = 0 }; up = false }
+    record { numbers = numbersFresh 0; held = false; message = spaces; j = record { 0 = 1 }; last = record { 0 = 0 }; up = false }
 
 unfoldable pub consoleAt : List ℕ → Console
 consoleAt s = if isState s then fieldsAt s else noConsole
 
--- its last used, as its number record has it
-abbrev pub consoleLast : Console → LastUsed
-consoleLast c = last-used.Console (lastUsedJ c)
+-- its number record
+abbrev pub consoleRecord : Console → NumberRecord
+consoleRecord c = number-record.Console (record { 0 = c .numbers .reserved }) (c .numbers .block)
 
 -- ## Start after power loss
 
-abbrev pub lastAt : List ℕ → Last
-lastAt r = lastIn 1 (recordRead r)
+abbrev pub startAt : List ℕ → Start
+startAt r = startIn 1 (recordRead r)
 
 abbrev pub downedBytes : List ℕ → List ℕ
-downedBytes r = consoleBytes (downedConsole (record { 0 = lastAt r .number }))
+downedBytes r = consoleBytes (downedConsole (numbersKept (startAt r .number) (startAt r .block)))
 
 -- ## A step
 
@@ -71,8 +72,8 @@ pub record ConsoleStep : Type 0 where
 abbrev pub stepped : List ℕ → ConsoleAlone → ConsoleStep
 stepped s a =
     record {
-      told = told (a .outcome .report) (a .outcome .sent) (changed (consoleAt s .numbers .used) (a .outcome .console .numbers .used));
-      state = if isRefusal (a .outcome .report) then s else written 30 s (consoleBytes (a .outcome .console));
+      told = told (a .outcome .report) (a .outcome .sent) (changed (consoleAt s .numbers) (a .outcome .console .numbers));
+      state = if isRefusal (a .outcome .report) then s else written 36 s (consoleBytes (a .outcome .console));
       reply = a .reply;
     }
 

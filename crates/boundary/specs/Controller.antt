@@ -1,4 +1,4 @@
--- A controller's state as 17 bytes, and what each entry for it does. Assumes nothing.
+-- A controller's state as 23 bytes, and what each entry for it does. Assumes nothing.
 use Prim.Native.Nat.{ℕ}
 use mathlib.Core.Bool.{Bool, false, _&&_}
 use mathlib.Core.List.{List, [], _∷_, _++_}
@@ -8,54 +8,55 @@ use Rattle.ground.specs.Choice.{if_then_else_}
 use Rattle.wire.specs.Frame.{field}
 use Rattle.wire.specs.Number.{bytesOf, value}
 use Rattle.wire.specs.Record.{recordRead}
-use Rattle.wire.specs.declared.LastUsed.{LastUsed}
-use Rattle.wire.specs.declared.LastUsed.the-variants as last-used
-use Rattle.ends_controller.specs.Fields.{lastUsedI, downedController}
+use Rattle.wire.specs.declared.NumberRecord.{NumberRecord}
+use Rattle.wire.specs.declared.NumberRecord.the-variants as number-record
+use Rattle.numbers.specs.Numbers.{numbersKept, numbersFresh}
+use Rattle.ends_controller.specs.Fields.{downedController}
 use Rattle.ends.specs.declared.Report.{Report}
 use Rattle.ends.specs.declared.Report.the-variants as report
 use Rattle.ends_controller.specs.declared.fields.Controller.{Controller}
 use Rattle.alone.specs.ControllerAlone.{ControllerAlone, controllerAlone}
-use Rattle.boundary.specs.declared.state.Last.{Last}
-use Rattle.boundary.specs.State.{flag, isRefusal, changed, told, lastIn, written}
+use Rattle.boundary.specs.declared.state.Start.{Start}
+use Rattle.boundary.specs.State.{numbersBytes, numbersAt, flag, isRefusal, changed, told, startIn, written}
 
--- 0-3 last used I; 4-7 j; 8-11 i; 12-15 last; 16 up. Numbers big-endian, the flag 0 or 1
+-- 0-9 its numbers, of I; 10-13 j; 14-17 i; 18-21 last; 22 up. The flag is 0 or 1
 unfoldable pub controllerBytes : Controller → List ℕ
 controllerBytes c =
-    bytesOf 4 (c .numbers .used) ++ (bytesOf 4 (c .j .0) ++ (bytesOf 4 (c .i .0) ++ (bytesOf 4 (c .last .0) ++ (flag (c .up) ∷ []))))
+    numbersBytes (c .numbers) ++ (bytesOf 4 (c .j .0) ++ (bytesOf 4 (c .i .0) ++ (bytesOf 4 (c .last .0) ++ (flag (c .up) ∷ []))))
 
--- 17 bytes with a flag
+-- 23 bytes with a flag
 unfoldable pub isState : List ℕ → Bool
-isState s = eqb (length s) 17 && leb (getD s 16 0) 1
+isState s = eqb (length s) 23 && leb (getD s 22 0) 1
 
 unfoldable pub fieldsAt : List ℕ → Controller
 fieldsAt s =
     record {
-      numbers = record { used = value (field s 0 4) };
-      j = record { 0 = value (field s 4 4) };
-      i = record { 0 = value (field s 8 4) };
-      last = record { 0 = value (field s 12 4) };
-      up = eqb (getD s 16 0) 1;
+      numbers = numbersAt s;
+      j = record { 0 = value (field s 10 4) };
+      i = record { 0 = value (field s 14 4) };
+      last = record { 0 = value (field s 18 4) };
+      up = eqb (getD s 22 0) 1;
     }
 
 -- what bytes that are no state stand for: fields that contradict each other, a j with no i
 abbrev pub noController : Controller
 noController =
-    record { numbers = record { used = 0 }; j = record { 0 = 1 }; i = record { 0 = 0 }; last = record { 0 = 0 }; up = false }
+    record { numbers = numbersFresh 0; j = record { 0 = 1 }; i = record { 0 = 0 }; last = record { 0 = 0 }; up = false }
 
 unfoldable pub controllerAt : List ℕ → Controller
 controllerAt s = if isState s then fieldsAt s else noController
 
--- its last used, as its number record has it
-abbrev pub controllerLast : Controller → LastUsed
-controllerLast c = last-used.Controller (lastUsedI c)
+-- its number record
+abbrev pub controllerRecord : Controller → NumberRecord
+controllerRecord c = number-record.Controller (record { 0 = c .numbers .reserved }) (c .numbers .block)
 
 -- ## Start after power loss
 
-abbrev pub lastAt : List ℕ → Last
-lastAt r = lastIn 2 (recordRead r)
+abbrev pub startAt : List ℕ → Start
+startAt r = startIn 2 (recordRead r)
 
 abbrev pub downedBytes : List ℕ → List ℕ
-downedBytes r = controllerBytes (downedController (record { 0 = lastAt r .number }))
+downedBytes r = controllerBytes (downedController (numbersKept (startAt r .number) (startAt r .block)))
 
 -- ## A step
 
@@ -77,8 +78,8 @@ deliveredTo (report.Refused n) m out = out
 abbrev pub stepped : List ℕ → List ℕ → ControllerAlone → ControllerStep
 stepped s out a =
     record {
-      told = told (a .outcome .report) (a .outcome .sent) (changed (controllerAt s .numbers .used) (a .outcome .controller .numbers .used));
-      state = if isRefusal (a .outcome .report) then s else written 17 s (controllerBytes (a .outcome .controller));
+      told = told (a .outcome .report) (a .outcome .sent) (changed (controllerAt s .numbers) (a .outcome .controller .numbers));
+      state = if isRefusal (a .outcome .report) then s else written 23 s (controllerBytes (a .outcome .controller));
       reply = a .reply;
       delivered = deliveredTo (a .outcome .report) (a .outcome .message) out;
     }

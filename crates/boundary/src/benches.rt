@@ -1,4 +1,4 @@
-// A bench in C's hands: its state is 49 bytes that the caller keeps beside its two tables.
+// A bench in C's hands: its state is 61 bytes that the caller keeps beside its two tables.
 use crate::console::console_at;
 use crate::console::no_console;
 use crate::console::put_console;
@@ -6,6 +6,7 @@ use crate::controller::controller_at;
 use crate::controller::hand_over;
 use crate::controller::no_controller;
 use crate::controller::put_controller;
+use crate::state::fill;
 use crate::state::is_refusal;
 use crate::state::told;
 use bench::Action;
@@ -19,7 +20,7 @@ ghost use Prim.Native.Nat.{_%_};
 ghost use lib.ListN.{length};
 ghost use Rattle.ground.specs.Choice.{if_then_else_};
 ghost use Rattle.boundary.specs.State.{isRefusal, written};
-ghost use Rattle.boundary.specs.Benches.{counts, benchBytes, partsAt, noBench, benchAt};
+ghost use Rattle.boundary.specs.Benches.{benchBytes, partsAt, noBench, benchAt};
 ghost use Rattle.boundary.specs.Benches.{freshPut, stepPut, showTo, showAt, offsetAt};
 
 // A byte by itself, whose type says that it fits.
@@ -30,16 +31,16 @@ fn count_of(x: u8) -> usize
 }
 
 fn parts_at(s: &[u8]) -> Bench
-    requires { ⌜ length (now s) ≡ 49 ⌝ }
+    requires { ⌜ length (now s) ≡ 61 ⌝ }
     ensures { λ r. ⌜ r ≡ partsAt (now (s .entry)) ⌝ }
 {
-    let console = console_at(&s[0..30]);
-    let controller = controller_at(&s[30..47]);
+    let console = console_at(&s[0..36]);
+    let controller = controller_at(&s[36..59]);
     Bench {
         console,
         controller,
-        sent: count_of(s[47]),
-        returned: count_of(s[48]),
+        sent: count_of(s[59]),
+        returned: count_of(s[60]),
     }
 }
 
@@ -60,7 +61,7 @@ fn no_bench() -> Bench
 fn bench_at(s: &[u8]) -> Bench
     ensures { λ r. ⌜ r ≡ benchAt (now (s .entry)) ⌝ }
 {
-    if s.len() != 49 {
+    if s.len() != 61 {
         return no_bench();
     }
     parts_at(s)
@@ -73,33 +74,26 @@ fn count_byte(n: usize) -> u8
     (n % 0x100) as u8
 }
 
-fn put_counts(part: &mut [u8], sent: usize, returned: usize)
-    requires { ⌜ length (now part) ≡ 2 ⌝ }
-    ensures { λ _. ⌜ now (part .exit) ≡ counts sent returned ⌝ }
-{
-    let both = [count_byte(sent), count_byte(returned)];
-    bytes::copy(&both, part);
-}
-
 fn put_bench(state: &mut [u8], b: Bench)
-    requires { ⌜ length (now state) ≡ 49 ⌝ }
+    requires { ⌜ length (now state) ≡ 61 ⌝ }
     ensures { λ _. ⌜ now (state .exit) ≡ benchBytes b ⌝ }
 {
     let console = b.console;
     let controller = b.controller;
-    put_console(&mut state[0..30], console);
-    put_controller(&mut state[30..47], controller);
-    put_counts(&mut state[47..49], b.sent, b.returned);
+    let counts = [count_byte(b.sent), count_byte(b.returned)];
+    put_console(&mut state[0..36], console);
+    put_controller(&mut state[36..59], controller);
+    fill(&mut state[59..61], &counts);
 }
 
 // A refusal leaves the state.
 fn keep(state: &mut [u8], report: Report, after: Bench)
-    ensures { λ _. ⌜ now (state .exit) ≡ (if isRefusal report then now (state .entry) else written 49 (now (state .entry)) (benchBytes after)) ⌝ }
+    ensures { λ _. ⌜ now (state .exit) ≡ (if isRefusal report then now (state .entry) else written 61 (now (state .entry)) (benchBytes after)) ⌝ }
 {
     if is_refusal(report) {
         return;
     }
-    if state.len() != 49 {
+    if state.len() != 61 {
         return;
     }
     put_bench(state, after);
@@ -116,7 +110,7 @@ pub extern "C" fn nooseless_bench_fresh(
 ) -> u8
     ensures { λ r. ⌜ record { told = r; state = now (state .exit); out = now (out .exit); back = now (back .exit) } ≡ freshPut (record { 0 = «console_last_used» }) (record { 0 = «controller_last_used» }) (now (state .entry)) (now (out .entry)) (now (back .entry)) ⌝ }
 {
-    if state.len() != 49 {
+    if state.len() != 61 {
         return 2;
     }
     let made = bench::fresh(J(console_last_used), I(controller_last_used), out, back);
@@ -182,11 +176,11 @@ pub extern "C" fn nooseless_bench_show(
 ) -> u8
     ensures { λ r. ⌜ (r ≡ showAt (now (state .entry)) (now (out .entry)) (now (back .entry)) end place) × (now (offset .exit) ≡ offsetAt (showAt (now (state .entry)) (now (out .entry)) (now (back .entry)) end place) place (now (offset .entry))) ⌝ }
 {
-    if state.len() != 49 {
+    if state.len() != 61 {
         return 2;
     }
-    let sent = count_of(state[47]);
-    let returned = count_of(state[48]);
+    let sent = count_of(state[59]);
+    let returned = count_of(state[60]);
     let refusal = show_to(end, place, out, sent, back, returned);
     if refusal != 0 {
         return refusal;

@@ -1,50 +1,54 @@
-// A console in C's hands: its state is 30 bytes that the caller keeps.
+// A console in C's hands: its state is 36 bytes that the caller keeps.
 use crate::state::changed;
+use crate::state::fill;
 use crate::state::flag;
 use crate::state::is_refusal;
-use crate::state::last_in;
 use crate::state::number_at;
+use crate::state::numbers_at;
+use crate::state::put_numbers;
+use crate::state::start_in;
 use crate::state::told;
 use ends::Report;
 use ends_console::fields;
 use ends_console::fields::Console;
 use ends_console::fields::ConsoleRead;
-use numbers::Numbers;
 use wire::I;
 use wire::J;
-use wire::LastUsed;
+use wire::NumberRecord;
 ghost use mathlib.Core.Path.{_≡_};
+ghost use mathlib.Core.List.{[], _∷_, _++_};
 ghost use lib.ListN.{length, drop};
 ghost use Rattle.ground.specs.Choice.{if_then_else_};
+ghost use Rattle.wire.specs.Number.{bytesOf};
 ghost use Rattle.ends_console.specs.Fields.{freshConsole, consoleOk};
-ghost use Rattle.boundary.specs.State.{isRefusal, lengthRefusal, written, startRefusal, started, stateRecordRefusal, stateRecordPut};
-ghost use Rattle.boundary.specs.Console.{front, consoleBytes, fieldsAt, noConsole, consoleAt};
-ghost use Rattle.boundary.specs.Console.{consoleLast, lastAt, downedBytes, consoleStep};
+ghost use Rattle.boundary.specs.State.{flag, isRefusal, lengthRefusal, written, startRefusal, started, stateRecordRefusal, stateRecordPut};
+ghost use Rattle.boundary.specs.Console.{consoleBytes, fieldsAt, noConsole, consoleAt};
+ghost use Rattle.boundary.specs.Console.{consoleRecord, startAt, downedBytes, consoleStep};
 
 fn message_at(s: &[u8]) -> [u8; 16]
-    requires { ⌜ length (now s) ≡ 30 ⌝ }
-    ensures { λ r. ⌜ r ≡ drop 14 (now (s .entry)) ⌝ }
+    requires { ⌜ length (now s) ≡ 36 ⌝ }
+    ensures { λ r. ⌜ r ≡ drop 20 (now (s .entry)) ⌝ }
 {
     let mut m = [0; 16];
-    bytes::copy(&s[14..], &mut m);
+    bytes::copy(&s[20..], &mut m);
     m
 }
 
 fn fields_at(s: &[u8]) -> Console
-    requires { ⌜ length (now s) ≡ 30 ⌝ }
+    requires { ⌜ length (now s) ≡ 36 ⌝ }
     ensures { λ r. ⌜ r ≡ fieldsAt (now (s .entry)) ⌝ }
 {
-    let used = number_at(s, 0);
-    let j = J(number_at(s, 4));
-    let last = I(number_at(s, 8));
+    let numbers = numbers_at(s);
+    let j = J(number_at(s, 10));
+    let last = I(number_at(s, 14));
     let message = message_at(s);
     Console {
-        numbers: Numbers { used },
-        held: s[12] == 1,
+        numbers,
+        held: s[18] == 1,
         message,
         j,
         last,
-        up: s[13] == 1,
+        up: s[19] == 1,
     }
 }
 
@@ -53,7 +57,7 @@ pub(crate) fn no_console() -> Console
     ensures { λ r. ⌜ r ≡ noConsole ⌝ }
 {
     Console {
-        numbers: Numbers { used: 0 },
+        numbers: numbers::fresh(0),
         held: false,
         message: [0x20; 16],
         j: J(1),
@@ -65,59 +69,46 @@ pub(crate) fn no_console() -> Console
 pub(crate) fn console_at(s: &[u8]) -> Console
     ensures { λ r. ⌜ r ≡ consoleAt (now (s .entry)) ⌝ }
 {
-    if s.len() != 30 {
+    if s.len() != 36 {
         return no_console();
     }
-    if 1 < s[12] {
+    if 1 < s[18] {
         return no_console();
     }
-    if 1 < s[13] {
+    if 1 < s[19] {
         return no_console();
     }
     fields_at(s)
 }
 
-// Bytes 0 to 13 of a state.
-fn numbers_and_flags(c: Console) -> [u8; 14]
-    ensures { λ r. ⌜ r ≡ front c ⌝ }
+// Bytes 10 to 19 of a state.
+fn put_rest(part: &mut [u8], c: Console)
+    requires { ⌜ length (now part) ≡ 10 ⌝ }
+    ensures { λ _. ⌜ now (part .exit) ≡ bytesOf 4 (c .j .0) ++ (bytesOf 4 (c .last .0) ++ (flag (c .held) ∷ flag (c .up) ∷ [])) ⌝ }
 {
-    let u = wire::big_endian(c.numbers.used);
     let j = wire::big_endian(c.j.0);
-    let l = wire::big_endian(c.last.0);
-    let held = flag(c.held);
-    let up = flag(c.up);
-    [
-        u[0],
-        u[1],
-        u[2],
-        u[3],
-        j[0],
-        j[1],
-        j[2],
-        j[3],
-        l[0],
-        l[1],
-        l[2],
-        l[3],
-        held,
-        up,
-    ]
+    let last = wire::big_endian(c.last.0);
+    let flags = [flag(c.held), flag(c.up)];
+    fill(&mut part[0..4], &j);
+    fill(&mut part[4..8], &last);
+    fill(&mut part[8..10], &flags);
 }
 
 pub(crate) fn put_console(state: &mut [u8], c: Console)
-    requires { ⌜ length (now state) ≡ 30 ⌝ }
+    requires { ⌜ length (now state) ≡ 36 ⌝ }
     ensures { λ _. ⌜ now (state .exit) ≡ consoleBytes c ⌝ }
 {
-    let m = c.message;
-    let head = numbers_and_flags(c);
-    bytes::copy(&head, state);
-    bytes::copy(&m, &mut state[14..]);
+    let numbers = c.numbers;
+    let message = c.message;
+    put_numbers(&mut state[0..10], numbers);
+    put_rest(&mut state[10..20], c);
+    fill(&mut state[20..36], &message);
 }
 
 fn write_console(state: &mut [u8], c: Console) -> u8
-    ensures { λ r. ⌜ (r ≡ lengthRefusal 30 (now (state .entry))) × (now (state .exit) ≡ written 30 (now (state .entry)) (consoleBytes c)) ⌝ }
+    ensures { λ r. ⌜ (r ≡ lengthRefusal 36 (now (state .entry))) × (now (state .exit) ≡ written 36 (now (state .entry)) (consoleBytes c)) ⌝ }
 {
-    if state.len() != 30 {
+    if state.len() != 36 {
         return 2;
     }
     put_console(state, c);
@@ -127,44 +118,48 @@ fn write_console(state: &mut [u8], c: Console) -> u8
 // Up and idle, with any last used.
 #[no_mangle]
 pub extern "C" fn nooseless_console_fresh(state: &mut [u8], last_used: u32) -> u8
-    ensures { λ r. ⌜ (r ≡ lengthRefusal 30 (now (state .entry))) × (now (state .exit) ≡ written 30 (now (state .entry)) (consoleBytes (freshConsole (record { 0 = «last_used» })))) ⌝ }
+    ensures { λ r. ⌜ (r ≡ lengthRefusal 36 (now (state .entry))) × (now (state .exit) ≡ written 36 (now (state .entry)) (consoleBytes (freshConsole (record { 0 = «last_used» })))) ⌝ }
 {
     write_console(state, fields::fresh_console(J(last_used)))
 }
 
-// After power loss: down, with the last used of the console's number record.
+// After power loss: down, with the numbers of the console's number record, of either version.
 #[no_mangle]
 pub extern "C" fn nooseless_console_downed(state: &mut [u8], record: &[u8]) -> u8
-    ensures { λ r. ⌜ (r ≡ startRefusal 30 (now (state .entry)) (lastAt (now («record» .entry)))) × (now (state .exit) ≡ started 30 (now (state .entry)) (lastAt (now («record» .entry))) (downedBytes (now («record» .entry)))) ⌝ }
+    ensures { λ r. ⌜ (r ≡ startRefusal 36 (now (state .entry)) (startAt (now («record» .entry)))) × (now (state .exit) ≡ started 36 (now (state .entry)) (startAt (now («record» .entry))) (downedBytes (now («record» .entry)))) ⌝ }
 {
-    let last = last_in(1, record);
-    if state.len() != 30 {
+    let start = start_in(1, record);
+    if state.len() != 36 {
         return 2;
     }
-    if last.refusal != 0 {
-        return last.refusal;
+    if start.refusal != 0 {
+        return start.refusal;
     }
-    put_console(state, fields::downed_console(J(last.number)));
+    put_console(
+        state,
+        fields::downed_console(numbers::kept(start.number, start.block)),
+    );
     0
 }
 
-// The number record to keep before a packet that bears a new number leaves.
+// The number record to keep where a step told that it changed.
 #[no_mangle]
 pub extern "C" fn nooseless_console_record(state: &[u8], out: &mut [u8]) -> u8
-    ensures { λ r. ⌜ (r ≡ stateRecordRefusal (consoleOk (consoleAt (now (state .entry)))) (now (out .entry))) × (now (out .exit) ≡ stateRecordPut (consoleOk (consoleAt (now (state .entry)))) (consoleLast (consoleAt (now (state .entry)))) (now (out .entry))) ⌝ }
+    ensures { λ r. ⌜ (r ≡ stateRecordRefusal (consoleOk (consoleAt (now (state .entry)))) (consoleRecord (consoleAt (now (state .entry)))) (now (out .entry))) × (now (out .exit) ≡ stateRecordPut (consoleOk (consoleAt (now (state .entry)))) (consoleRecord (consoleAt (now (state .entry)))) (now (out .entry))) ⌝ }
 {
     let c = console_at(state);
-    let used = J(c.numbers.used);
+    let reserved = J(c.numbers.reserved);
+    let block = c.numbers.block;
     let read = fields::read_console(c);
     match read {
         ConsoleRead::IllFormed => 2,
-        ConsoleRead::Is(_) => wire::write_record(out, LastUsed::Console(used)),
+        ConsoleRead::Is(_) => wire::write_record(out, NumberRecord::Console(reserved, block)),
     }
 }
 
 // A refusal leaves the state.
 fn keep(state: &mut [u8], report: Report, after: Console)
-    ensures { λ _. ⌜ now (state .exit) ≡ (if isRefusal report then now (state .entry) else written 30 (now (state .entry)) (consoleBytes after)) ⌝ }
+    ensures { λ _. ⌜ now (state .exit) ≡ (if isRefusal report then now (state .entry) else written 36 (now (state .entry)) (consoleBytes after)) ⌝ }
 {
     if is_refusal(report) {
         return;

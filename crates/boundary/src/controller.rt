@@ -1,40 +1,44 @@
-// A controller in C's hands: its state is 17 bytes that the caller keeps.
+// A controller in C's hands: its state is 23 bytes that the caller keeps.
 use crate::state::changed;
+use crate::state::fill;
 use crate::state::flag;
 use crate::state::is_refusal;
-use crate::state::last_in;
 use crate::state::number_at;
+use crate::state::numbers_at;
+use crate::state::put_numbers;
+use crate::state::start_in;
 use crate::state::told;
 use ends::Report;
 use ends_controller::fields;
 use ends_controller::fields::Controller;
 use ends_controller::fields::ControllerRead;
-use numbers::Numbers;
 use wire::I;
 use wire::J;
-use wire::LastUsed;
+use wire::NumberRecord;
 ghost use mathlib.Core.Path.{_≡_};
+ghost use mathlib.Core.List.{[], _∷_, _++_};
 ghost use lib.ListN.{length};
 ghost use Rattle.ground.specs.Choice.{if_then_else_};
+ghost use Rattle.wire.specs.Number.{bytesOf};
 ghost use Rattle.ends_controller.specs.Fields.{freshController, controllerOk};
-ghost use Rattle.boundary.specs.State.{isRefusal, lengthRefusal, written, startRefusal, started, stateRecordRefusal, stateRecordPut};
+ghost use Rattle.boundary.specs.State.{flag, isRefusal, lengthRefusal, written, startRefusal, started, stateRecordRefusal, stateRecordPut};
 ghost use Rattle.boundary.specs.Controller.{controllerBytes, fieldsAt, noController, controllerAt};
-ghost use Rattle.boundary.specs.Controller.{controllerLast, lastAt, downedBytes, deliveredTo, controllerStep};
+ghost use Rattle.boundary.specs.Controller.{controllerRecord, startAt, downedBytes, deliveredTo, controllerStep};
 
 fn fields_at(s: &[u8]) -> Controller
-    requires { ⌜ length (now s) ≡ 17 ⌝ }
+    requires { ⌜ length (now s) ≡ 23 ⌝ }
     ensures { λ r. ⌜ r ≡ fieldsAt (now (s .entry)) ⌝ }
 {
-    let used = number_at(s, 0);
-    let j = J(number_at(s, 4));
-    let i = I(number_at(s, 8));
-    let last = I(number_at(s, 12));
+    let numbers = numbers_at(s);
+    let j = J(number_at(s, 10));
+    let i = I(number_at(s, 14));
+    let last = I(number_at(s, 18));
     Controller {
-        numbers: Numbers { used },
+        numbers,
         j,
         i,
         last,
-        up: s[16] == 1,
+        up: s[22] == 1,
     }
 }
 
@@ -43,7 +47,7 @@ pub(crate) fn no_controller() -> Controller
     ensures { λ r. ⌜ r ≡ noController ⌝ }
 {
     Controller {
-        numbers: Numbers { used: 0 },
+        numbers: numbers::fresh(0),
         j: J(1),
         i: I(0),
         last: I(0),
@@ -54,56 +58,43 @@ pub(crate) fn no_controller() -> Controller
 pub(crate) fn controller_at(s: &[u8]) -> Controller
     ensures { λ r. ⌜ r ≡ controllerAt (now (s .entry)) ⌝ }
 {
-    if s.len() != 17 {
+    if s.len() != 23 {
         return no_controller();
     }
-    if 1 < s[16] {
+    if 1 < s[22] {
         return no_controller();
     }
     fields_at(s)
 }
 
-fn controller_bytes(c: Controller) -> [u8; 17]
-    ensures { λ r. ⌜ r ≡ controllerBytes c ⌝ }
+// Bytes 14 to 22 of a state.
+fn put_rest(part: &mut [u8], c: Controller)
+    requires { ⌜ length (now part) ≡ 9 ⌝ }
+    ensures { λ _. ⌜ now (part .exit) ≡ bytesOf 4 (c .i .0) ++ (bytesOf 4 (c .last .0) ++ (flag (c .up) ∷ [])) ⌝ }
 {
-    let u = wire::big_endian(c.numbers.used);
-    let j = wire::big_endian(c.j.0);
     let i = wire::big_endian(c.i.0);
-    let l = wire::big_endian(c.last.0);
-    let up = flag(c.up);
-    [
-        u[0],
-        u[1],
-        u[2],
-        u[3],
-        j[0],
-        j[1],
-        j[2],
-        j[3],
-        i[0],
-        i[1],
-        i[2],
-        i[3],
-        l[0],
-        l[1],
-        l[2],
-        l[3],
-        up,
-    ]
+    let last = wire::big_endian(c.last.0);
+    let up = [flag(c.up)];
+    fill(&mut part[0..4], &i);
+    fill(&mut part[4..8], &last);
+    fill(&mut part[8..9], &up);
 }
 
 pub(crate) fn put_controller(state: &mut [u8], c: Controller)
-    requires { ⌜ length (now state) ≡ 17 ⌝ }
+    requires { ⌜ length (now state) ≡ 23 ⌝ }
     ensures { λ _. ⌜ now (state .exit) ≡ controllerBytes c ⌝ }
 {
-    let all = controller_bytes(c);
-    bytes::copy(&all, state);
+    let numbers = c.numbers;
+    let j = wire::big_endian(c.j.0);
+    put_numbers(&mut state[0..10], numbers);
+    fill(&mut state[10..14], &j);
+    put_rest(&mut state[14..23], c);
 }
 
 fn write_controller(state: &mut [u8], c: Controller) -> u8
-    ensures { λ r. ⌜ (r ≡ lengthRefusal 17 (now (state .entry))) × (now (state .exit) ≡ written 17 (now (state .entry)) (controllerBytes c)) ⌝ }
+    ensures { λ r. ⌜ (r ≡ lengthRefusal 23 (now (state .entry))) × (now (state .exit) ≡ written 23 (now (state .entry)) (controllerBytes c)) ⌝ }
 {
-    if state.len() != 17 {
+    if state.len() != 23 {
         return 2;
     }
     put_controller(state, c);
@@ -113,44 +104,48 @@ fn write_controller(state: &mut [u8], c: Controller) -> u8
 // Up and idle, with any last used.
 #[no_mangle]
 pub extern "C" fn nooseless_controller_fresh(state: &mut [u8], last_used: u32) -> u8
-    ensures { λ r. ⌜ (r ≡ lengthRefusal 17 (now (state .entry))) × (now (state .exit) ≡ written 17 (now (state .entry)) (controllerBytes (freshController (record { 0 = «last_used» })))) ⌝ }
+    ensures { λ r. ⌜ (r ≡ lengthRefusal 23 (now (state .entry))) × (now (state .exit) ≡ written 23 (now (state .entry)) (controllerBytes (freshController (record { 0 = «last_used» })))) ⌝ }
 {
     write_controller(state, fields::fresh_controller(I(last_used)))
 }
 
-// After power loss: down, with the last used of the controller's number record.
+// After power loss: down, with the numbers of the controller's number record, of either version.
 #[no_mangle]
 pub extern "C" fn nooseless_controller_downed(state: &mut [u8], record: &[u8]) -> u8
-    ensures { λ r. ⌜ (r ≡ startRefusal 17 (now (state .entry)) (lastAt (now («record» .entry)))) × (now (state .exit) ≡ started 17 (now (state .entry)) (lastAt (now («record» .entry))) (downedBytes (now («record» .entry)))) ⌝ }
+    ensures { λ r. ⌜ (r ≡ startRefusal 23 (now (state .entry)) (startAt (now («record» .entry)))) × (now (state .exit) ≡ started 23 (now (state .entry)) (startAt (now («record» .entry))) (downedBytes (now («record» .entry)))) ⌝ }
 {
-    let last = last_in(2, record);
-    if state.len() != 17 {
+    let start = start_in(2, record);
+    if state.len() != 23 {
         return 2;
     }
-    if last.refusal != 0 {
-        return last.refusal;
+    if start.refusal != 0 {
+        return start.refusal;
     }
-    put_controller(state, fields::downed_controller(I(last.number)));
+    put_controller(
+        state,
+        fields::downed_controller(numbers::kept(start.number, start.block)),
+    );
     0
 }
 
-// The number record to keep before a packet that bears a new number leaves.
+// The number record to keep where a step told that it changed.
 #[no_mangle]
 pub extern "C" fn nooseless_controller_record(state: &[u8], out: &mut [u8]) -> u8
-    ensures { λ r. ⌜ (r ≡ stateRecordRefusal (controllerOk (controllerAt (now (state .entry)))) (now (out .entry))) × (now (out .exit) ≡ stateRecordPut (controllerOk (controllerAt (now (state .entry)))) (controllerLast (controllerAt (now (state .entry)))) (now (out .entry))) ⌝ }
+    ensures { λ r. ⌜ (r ≡ stateRecordRefusal (controllerOk (controllerAt (now (state .entry)))) (controllerRecord (controllerAt (now (state .entry)))) (now (out .entry))) × (now (out .exit) ≡ stateRecordPut (controllerOk (controllerAt (now (state .entry)))) (controllerRecord (controllerAt (now (state .entry)))) (now (out .entry))) ⌝ }
 {
     let c = controller_at(state);
-    let used = I(c.numbers.used);
+    let reserved = I(c.numbers.reserved);
+    let block = c.numbers.block;
     let read = fields::read_controller(c);
     match read {
         ControllerRead::IllFormed => 2,
-        ControllerRead::Is(_) => wire::write_record(out, LastUsed::Controller(used)),
+        ControllerRead::Is(_) => wire::write_record(out, NumberRecord::Controller(reserved, block)),
     }
 }
 
 // A refusal leaves the state.
 fn keep(state: &mut [u8], report: Report, after: Controller)
-    ensures { λ _. ⌜ now (state .exit) ≡ (if isRefusal report then now (state .entry) else written 17 (now (state .entry)) (controllerBytes after)) ⌝ }
+    ensures { λ _. ⌜ now (state .exit) ≡ (if isRefusal report then now (state .entry) else written 23 (now (state .entry)) (controllerBytes after)) ⌝ }
 {
     if is_refusal(report) {
         return;

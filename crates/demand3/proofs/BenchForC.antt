@@ -12,7 +12,7 @@ use Rattle.ground.specs.Choice.{if_then_else_}
 use Rattle.ground.proofs.Tests.{by-test}
 use Rattle.wire.specs.declared.I.{I}
 use Rattle.wire.specs.declared.J.{J}
-use Rattle.rules.specs.Supply.{numbering, Numbers}
+use Rattle.rules.specs.Supply.{numbering, Numbers, fresh-numbers}
 use Rattle.rules.specs.Bench as rules
 use Rattle.rules.specs.Log.{Event}
 use Rattle.rules.specs.Plain.{Plain}
@@ -20,7 +20,7 @@ use Rattle.rules.specs.Demand3.{written}
 use Rattle.rules.specs.WellFormed.{Well-formed}
 use Rattle.rules.proofs.Plain.{right-plain}
 use Rattle.rules.proofs.WellFormed.{fresh-well-formed}
-use Rattle.numbers.proofs.Range.{sound-is}
+use Rattle.numbers.proofs.Range.{fresh-sound}
 use Rattle.ends.specs.AsRules.{numberIn}
 use Rattle.ends.specs.declared.Report.{Report}
 use Rattle.ends.specs.declared.Report.the-variants as report
@@ -128,22 +128,22 @@ calls-show b w (c ∷ l) =
     ap₂ (λ (x : Option (Event (List ℕ))) (xs : Rows). x ∷ xs) (row-shown b w a v (c .lent))
     (ap (callsShow l) next ∙ calls-show (v .after) (v .well-formed) l ∙ ap (allShown (actionsOf l)) (sym later))
 
--- ## From `nooseless_bench_fresh` on: any two numbers, any state of 49 bytes, any tables of 2,048 bytes, any calls
+-- ## From `nooseless_bench_fresh` on: any two numbers, any state of 61 bytes, any tables of 2,048 bytes, any calls
 
-module _ (j : J) (i : I) (s out₀ back₀ : List ℕ) (p : j .0 < 2 ^ 32) (q : i .0 < 2 ^ 32) (k : length s ≡ 49) (m : length out₀ ≡ 2048) (n : length back₀ ≡ 2048) (l : List Call) where
+module _ (j : J) (i : I) (s out₀ back₀ : List ℕ) (p : j .0 < 2 ^ 32) (q : i .0 < 2 ^ 32) (k : length s ≡ 61) (m : length out₀ ≡ 2048) (n : length back₀ ≡ 2048) (l : List Call) where
   abbrev b : rules.Bench Numbers (List ℕ)
   b = freshRules j i
 
   fresh-put : freshPut j i s out₀ back₀ ≡ record { told = 0; state = kept b; out = out b; back = back b }
   unfolding freshPut benchFresh benchTold state.written marks if_then_else_
-  fresh-put = rw (eq-eqb (length s) 49 k, eq-eqb (length out₀) 2048 m, eq-eqb (length back₀) 2048 n)
+  fresh-put = rw (eq-eqb (length s) 61 k, eq-eqb (length out₀) 2048 m, eq-eqb (length back₀) 2048 n)
 
   fresh-told : freshOutcomes j i out₀ back₀ (actionsOf l) ≡ outcomes (benchBack b) (out b) (back b) (actionsOf l)
   unfolding freshOutcomes benchFresh benchTold if_then_else_
   fresh-told = rw (eq-eqb (length out₀) 2048 m, eq-eqb (length back₀) 2048 n)
 
   fresh-ok : Well-formed numbering isMessage b
-  fresh-ok = fresh-well-formed numbering isMessage (j .0) (i .0) (sound-is (j .0) p) (sound-is (i .0) q)
+  fresh-ok = fresh-well-formed numbering isMessage (fresh-numbers (j .0)) (fresh-numbers (i .0)) (fresh-sound (j .0) p) (fresh-sound (i .0) q)
 
   pub calls-right : CallsRight j i s out₀ back₀ l
   unfolding freshCalls
@@ -156,5 +156,5 @@ module _ (j : J) (i : I) (s out₀ back₀ : List ℕ) (p : j .0 < 2 ^ 32) (q : 
       }
 
   -- in plain words
-  pub calls-plain : Plain (written (rowsOf [] (rules.fresh (j .0) (i .0)) (actionsOf l)) [])
+  pub calls-plain : Plain (written (rowsOf [] (rules.fresh (fresh-numbers (j .0)) (fresh-numbers (i .0))) (actionsOf l)) [])
   calls-plain = right-plain _ (calls-right .right)

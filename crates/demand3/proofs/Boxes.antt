@@ -1,5 +1,5 @@
 -- Demand 3 of two boxes over any radio, as they run: step by step they do what the rules' ends do over the radio.
-use Prim.Native.Nat.{ℕ, _<_, _^_}
+use Prim.Native.Nat.{ℕ}
 use mathlib.Core.Path.{_≡_, refl, sym, ap, subst, _∙_}
 use mathlib.Core.Logic.{_⊎_, inl, inr}
 use mathlib.Core.Bool.{Bool, true, not}
@@ -9,8 +9,6 @@ use lib.Dec.{eqb}
 use Rattle.ground.specs.Cell.{isMessage}
 use Rattle.ground.specs.First.{refusal}
 use Rattle.wire.specs.Packet.{packetRead}
-use Rattle.wire.specs.declared.I.{I}
-use Rattle.wire.specs.declared.J.{J}
 use Rattle.rules.specs.Supply.{numbering, Numbers}
 use Rattle.rules.specs.Letters as letters
 use Rattle.rules.specs.Letters.{Letter, letter}
@@ -24,7 +22,7 @@ use Rattle.rules.specs.Plain.{Plain}
 use Rattle.rules.specs.Demand3.{write, written, unnumbered, shown}
 use Rattle.rules.specs.Radio as radio
 use Rattle.rules.specs.Radio.{Link, Happening, aired, keeps, fails, happens, shown-of, rows-shown, rows-left, radio-log}
-use Rattle.rules.proofs.Supply.{numbering-lawful}
+use Rattle.rules.proofs.Supply.{numbering-lawful, back-is-reserved, back-again}
 use Rattle.rules.proofs.Lists.{if-holds}
 use Rattle.rules.proofs.Relabel.{map-append}
 use Rattle.rules.proofs.Ends.{console-reports}
@@ -32,9 +30,10 @@ use Rattle.rules.proofs.Plain.{right-plain}
 use Rattle.rules.proofs.Radio.{radio-right}
 use Rattle.rules.proofs.RadioWellFormed.{Link-ok, happens-ok, start-ok}
 use Rattle.rules.proofs.BenchOnRadio.{place-of}
-use Rattle.numbers.proofs.Range.{sound-is}
-use Rattle.ends_console.specs.Fields.{lastUsedJ}
-use Rattle.ends_controller.specs.Fields.{lastUsedI}
+use Rattle.numbers.specs.Numbers.{numbersMeans, numbersBack, numbersKept}
+use Rattle.numbers.specs.declared.Numbers as code
+use Rattle.ends_console.specs.Fields.{consoleKept}
+use Rattle.ends_controller.specs.Fields.{controllerKept}
 use Rattle.ends_console.specs.FieldsAsRules.{consoleBack}
 use Rattle.ends_controller.specs.FieldsAsRules.{controllerBack}
 use Rattle.ends_console.proofs.WellFormed.{ConsoleStands, console-stands}
@@ -51,7 +50,7 @@ use Rattle.alone.specs.ControllerAlone.{ControllerAlone, controllerRefused, con
 use Rattle.alone.proofs.Calls.{consoleHeard, ConsoleCall, console-call, controllerHeardAs, ControllerCall, controller-call}
 use Rattle.channels.specs.Packets.{toControllerBytes, controllerCame, toControllerRead, toConsoleBytes, consoleCame, toConsoleRead}
 use Rattle.channels.proofs.Packets.{to-controller-coded, to-console-coded}
-use Rattle.demand3.specs.Boxes.{Boxes, Reach, through, kept-and-cut, cut, Event, at-console, at-controller, leaves, consoleGoes, controllerGoes, after, start, called, consoleShows, controllerShows, shows, allShown, isForConsole, isForController, Honest, AllHonest, BoxesRight}
+use Rattle.demand3.specs.Boxes.{Stored, Boxes, Reach, through, kept-and-cut, cut, Event, at-console, at-controller, leaves, consoleGoes, controllerGoes, after, start, called, consoleShows, controllerShows, shows, allShown, isForConsole, isForController, Honest, AllHonest, BoxesRight}
 use Rattle.demand3.proofs.Lists.{in-map, all-in, map-written}
 
 abbrev pub Row : Type 0
@@ -65,9 +64,9 @@ abbrev pub boxesOf : Link Numbers Row → Boxes
 boxesOf k =
     record {
       console = consoleBack (k .bench .console);
-      console-kept = record { 0 = k .console-kept };
+      console-kept = numbersBack (k .console-kept);
       controller = controllerBack (k .bench .controller);
-      controller-kept = record { 0 = k .controller-kept };
+      controller-kept = numbersBack (k .controller-kept);
       toController = map toControllerBytes (k .bench .toController);
       toConsole = map toConsoleBytes (k .bench .toConsole);
     }
@@ -157,28 +156,32 @@ to-console-leaves (some q) y l = sym (map-append toConsoleBytes l (q ∷ []))
 
 -- ## The kept record is the end's
 
-pub console-used : (e : rules.Console Numbers Row) → lastUsedJ (consoleBack e) ≡ record { 0 = e .numbers }
-console-used e = of (e .mode) (e .numbers) (e .up)
+pub console-kept-so : (e : rules.Console Numbers Row) → numbering .sound (e .numbers) ≡ true → consoleKept (consoleBack e) ≡ numbersBack (numbering .back (e .numbers))
+console-kept-so e h = of (e .mode) (e .numbers) (e .up) ∙ sym (ap numbersBack (back-is-reserved (e .numbers) h))
   where
-    of : (x : rules.ConsoleMode Row) (n : Numbers) (up : Bool) → lastUsedJ (consoleBack (record { numbers = n; mode = x; up = up })) ≡ record { 0 = n }
+    of : (x : rules.ConsoleMode Row) (n : Numbers) (up : Bool) → consoleKept (consoleBack (record { numbers = n; mode = x; up = up })) ≡ numbersKept (n .reserved) (n .block)
     of rules.ConsoleMode.idle n up = refl
     of (rules.in-needI j m) n up = refl
     of (rules.in-send l m) n up = refl
 
-pub controller-used : (e : rules.Controller Numbers) → lastUsedI (controllerBack e) ≡ record { 0 = e .numbers }
-controller-used e = of (e .mode) (e .numbers) (e .up)
+pub controller-kept-so : (e : rules.Controller Numbers) → numbering .sound (e .numbers) ≡ true → controllerKept (controllerBack e) ≡ numbersBack (numbering .back (e .numbers))
+controller-kept-so e h = of (e .mode) (e .numbers) (e .up) ∙ sym (ap numbersBack (back-is-reserved (e .numbers) h))
   where
-    of : (x : rules.ControllerMode) (n : Numbers) (up : Bool) → lastUsedI (controllerBack (record { numbers = n; mode = x; up = up })) ≡ record { 0 = n }
+    of : (x : rules.ControllerMode) (n : Numbers) (up : Bool) → controllerKept (controllerBack (record { numbers = n; mode = x; up = up })) ≡ numbersKept (n .reserved) (n .block)
     of rules.ControllerMode.idle n up = refl
     of (rules.in-accept j i) n up = refl
     of (rules.in-ack l) n up = refl
 
--- between two steps each box has kept what its end has
+-- between two steps each box has kept what its end has when it comes back
 pub record Kept (k : Link Numbers Row) : Type 0 where
-  pub console : k .console-kept ≡ k .bench .console .numbers
-  pub controller : k .controller-kept ≡ k .bench .controller .numbers
+  pub console : k .console-kept ≡ numbering .back (k .bench .console .numbers)
+  pub controller : k .controller-kept ≡ numbering .back (k .bench .controller .numbers)
 
-aired-kept : (k : Link Numbers Row) (x : Asked Row) → Kept k → let o = aired numbering isMessage (k .bench) x in Kept (radio.goes-on (o .after) (keeps x (o .after) k))
+-- an end that has what was kept
+kept-again : (s n : Numbers) → s ≡ numbering .back n → s ≡ numbering .back s
+kept-again s n h = h ∙ sym (back-again n) ∙ ap (λ (x : Numbers). numbering .back x) (sym h)
+
+aired-kept : (k : Link Numbers Row) (x : Asked Row) → Kept k → let o = aired numbering isMessage (k .bench) x in Kept (radio.goes-on (o .after) (keeps numbering x (o .after) k))
 unfolding aired keeps
 aired-kept k (Asked.console act) h = record { console = refl; controller = h .controller }
 aired-kept k (Asked.controller act) h = record { console = h .console; controller = refl }
@@ -186,14 +189,14 @@ aired-kept k bench.no-end h = h
 
 fails-kept : (x : Asked Row) (k : Link Numbers Row) → (Kept k → Kept (fails x k))
 unfolding fails
-fails-kept (Asked.console act) k h = record { console = refl; controller = h .controller }
-fails-kept (Asked.controller act) k h = record { console = h .console; controller = refl }
+fails-kept (Asked.console act) k h = record { console = kept-again _ _ (h .console); controller = h .controller }
+fails-kept (Asked.controller act) k h = record { console = h .console; controller = kept-again _ _ (h .controller) }
 fails-kept bench.no-end k h = h
 
-kept-fails : (x : Asked Row) (b : bench.Bench Numbers Row) (k : Link Numbers Row) → Kept k → Kept (fails x (keeps x b k))
+kept-fails : (x : Asked Row) (b : bench.Bench Numbers Row) (k : Link Numbers Row) → Kept k → Kept (fails x (keeps numbering x b k))
 unfolding fails keeps
-kept-fails (Asked.console act) b k h = record { console = refl; controller = h .controller }
-kept-fails (Asked.controller act) b k h = record { console = h .console; controller = refl }
+kept-fails (Asked.console act) b k h = record { console = kept-again _ _ refl; controller = h .controller }
+kept-fails (Asked.controller act) b k h = record { console = h .console; controller = kept-again _ _ refl }
 kept-fails bench.no-end b k h = h
 
 pub happens-kept : (k : Link Numbers Row) (h : Happening Row) → Kept k → Kept (happens numbering isMessage k h .after)
@@ -209,7 +212,7 @@ Moved k e =
     ((shows (boxesOf k) e ≡ none) × (after (boxesOf k) e ≡ boxesOf k))
     ⊎ ((h : Happening Row) × ((shown-of numbering isMessage k h ≡ shows (boxesOf k) e) × (after (boxesOf k) e ≡ boxesOf (happens numbering isMessage k h .after))))
 
-module _ (k : Link Numbers Row) (kept : Kept k) (byte : ℕ) (m y : List ℕ) where
+module _ (k : Link Numbers Row) (ok : Ok k) (kept : Kept k) (byte : ℕ) (m y : List ℕ) where
   -- what comes of a console's call, with any reach
   abbrev Console-moved : Reach → ConsoleAlone → Type 0
   Console-moved w d =
@@ -223,10 +226,17 @@ module _ (k : Link Numbers Row) (kept : Kept k) (byte : ℕ) (m y : List ℕ) wh
   console-unmoved : (w : Reach) (n : ℕ) → Console-moved w (consoleRefused n (consoleBack (k .bench .console)) y)
   unfolding happens fails keeps aired asks rules.ends
   console-unmoved through n =
-      inl (refl, λ i. record { console = consoleBack (k .bench .console); console-kept = (console-used (k .bench .console) ∙ ap (λ (z : Numbers). record { 0 = z }) (sym (kept .console))) i; controller = controllerBack (k .bench .controller); controller-kept = record { 0 = k .controller-kept }; toController = map toControllerBytes (k .bench .toController); toConsole = map toConsoleBytes (k .bench .toConsole) })
+      inl (refl, λ i. record { console = consoleBack (k .bench .console); console-kept = (console-kept-so (k .bench .console) (ok .console .numbers) ∙ ap numbersBack (sym (kept .console))) i; controller = controllerBack (k .bench .controller); controller-kept = numbersBack (k .controller-kept); toController = map toControllerBytes (k .bench .toController); toConsole = map toConsoleBytes (k .bench .toConsole) })
   console-unmoved kept-and-cut n =
-      inr (radio.kept-and-cut (bench.action letters.C-down 0 0 []), (refl, ap (λ (u : J). consoleGoes cut (consoleRefused n (consoleBack (k .bench .console)) y) (record { console = consoleBack (k .bench .console); console-kept = u; controller = controllerBack (k .bench .controller); controller-kept = record { 0 = k .controller-kept }; toController = map toControllerBytes (k .bench .toController); toConsole = map toConsoleBytes (k .bench .toConsole) })) (console-used (k .bench .console))))
+      inr (radio.kept-and-cut (bench.action letters.C-down 0 0 []), (refl, ap (λ (u : code.Numbers). consoleGoes cut (consoleRefused n (consoleBack (k .bench .console)) y) (record { console = consoleBack (k .bench .console); console-kept = u; controller = controllerBack (k .bench .controller); controller-kept = numbersBack (k .controller-kept); toController = map toControllerBytes (k .bench .toController); toConsole = map toConsoleBytes (k .bench .toConsole) })) (console-kept-so (k .bench .console) (ok .console .numbers))))
   console-unmoved cut n = console-cut (consoleRefused n (consoleBack (k .bench .console)) y)
+
+  -- a step leaves sound numbers
+  console-sound : (l : Letter) (x : ℕ) (act : rules.ConsoleAct Row) → asks (k .bench) l x m ≡ Asked.console act → numbering .sound (rules.console-step numbering isMessage (k .bench .console) act .after .numbers) ≡ true
+  unfolding happens aired
+  console-sound l x act q =
+      subst (λ (z : Asked Row). numbering .sound (aired numbering isMessage (k .bench) z .after .console .numbers) ≡ true) q
+      (happens-ok numbering isMessage numbering-lawful k (radio.acts (bench.action l x 0 m)) ok .console .numbers)
 
   console-acted : (w : Reach) (l : Letter) → letter byte ≡ some l → (x : ℕ) (act : rules.ConsoleAct Row) → asks (k .bench) l x m ≡ Asked.console act
       → Console-moved w (consoleTold (rules.console-step numbering isMessage (k .bench .console) act) y)
@@ -237,8 +247,8 @@ module _ (k : Link Numbers Row) (kept : Kept k) (byte : ℕ) (m y : List ℕ) wh
         radio.acts (bench.action l x 0 m),
         (
           ap (λ (z : Asked Row). shown (bench.action l x 0 m) (aired numbering isMessage (k .bench) z .report)) q ∙ console-shown byte x m l e (d .report) (console-delivers-nothing (k .bench .console) act),
-          (λ i. record { console = consoleBack (d .after); console-kept = console-used (d .after) i; controller = controllerBack (k .bench .controller); controller-kept = record { 0 = k .controller-kept }; toController = to-controller-leaves (d .sent) y (k .bench .toController) i; toConsole = map toConsoleBytes (k .bench .toConsole) })
-              ∙ ap (λ (z : Asked Row). boxesOf (radio.goes-on (aired numbering isMessage (k .bench) z .after) (keeps z (aired numbering isMessage (k .bench) z .after) k))) (sym q),
+          (λ i. record { console = consoleBack (d .after); console-kept = console-kept-so (d .after) (console-sound l x act q) i; controller = controllerBack (k .bench .controller); controller-kept = numbersBack (k .controller-kept); toController = to-controller-leaves (d .sent) y (k .bench .toController) i; toConsole = map toConsoleBytes (k .bench .toConsole) })
+              ∙ ap (λ (z : Asked Row). boxesOf (radio.goes-on (aired numbering isMessage (k .bench) z .after) (keeps numbering z (aired numbering isMessage (k .bench) z .after) k))) (sym q),
         ),
       )
   console-acted kept-and-cut l e x act q =
@@ -247,13 +257,13 @@ module _ (k : Link Numbers Row) (kept : Kept k) (byte : ℕ) (m y : List ℕ) wh
         radio.kept-and-cut (bench.action l x 0 m),
         (
           ap (λ (z : Asked Row). radio.fall-of z) q,
-          ap (λ (u : J). consoleGoes cut (consoleTold d y) (record { console = consoleBack (k .bench .console); console-kept = u; controller = controllerBack (k .bench .controller); controller-kept = record { 0 = k .controller-kept }; toController = map toControllerBytes (k .bench .toController); toConsole = map toConsoleBytes (k .bench .toConsole) })) (console-used (d .after))
-              ∙ ap (λ (z : Asked Row). boxesOf (fails z (keeps z (aired numbering isMessage (k .bench) z .after) k))) (sym q),
+          ap (λ (u : code.Numbers). consoleGoes cut (consoleTold d y) (record { console = consoleBack (k .bench .console); console-kept = u; controller = controllerBack (k .bench .controller); controller-kept = numbersBack (k .controller-kept); toController = map toControllerBytes (k .bench .toController); toConsole = map toConsoleBytes (k .bench .toConsole) })) (console-kept-so (d .after) (console-sound l x act q))
+              ∙ ap (λ (z : Asked Row). boxesOf (fails z (keeps numbering z (aired numbering isMessage (k .bench) z .after) k))) (sym q),
         ),
       )
   console-acted cut l e x act q = console-cut (consoleTold (rules.console-step numbering isMessage (k .bench .console) act) y)
 
-module _ (k : Link Numbers Row) (kept : Kept k) (byte : ℕ) (y : List ℕ) where
+module _ (k : Link Numbers Row) (ok : Ok k) (kept : Kept k) (byte : ℕ) (y : List ℕ) where
   abbrev Controller-moved : Reach → ControllerAlone → Type 0
   Controller-moved w d =
       ((controllerShows w byte d ≡ none) × (controllerGoes w d (boxesOf k) ≡ boxesOf k))
@@ -266,10 +276,16 @@ module _ (k : Link Numbers Row) (kept : Kept k) (byte : ℕ) (y : List ℕ) wher
   controller-unmoved : (w : Reach) (n : ℕ) → Controller-moved w (controllerRefused n (controllerBack (k .bench .controller)) y)
   unfolding happens fails keeps aired asks rules.ends
   controller-unmoved through n =
-      inl (refl, λ i. record { console = consoleBack (k .bench .console); console-kept = record { 0 = k .console-kept }; controller = controllerBack (k .bench .controller); controller-kept = (controller-used (k .bench .controller) ∙ ap (λ (z : Numbers). record { 0 = z }) (sym (kept .controller))) i; toController = map toControllerBytes (k .bench .toController); toConsole = map toConsoleBytes (k .bench .toConsole) })
+      inl (refl, λ i. record { console = consoleBack (k .bench .console); console-kept = numbersBack (k .console-kept); controller = controllerBack (k .bench .controller); controller-kept = (controller-kept-so (k .bench .controller) (ok .controller .numbers) ∙ ap numbersBack (sym (kept .controller))) i; toController = map toControllerBytes (k .bench .toController); toConsole = map toConsoleBytes (k .bench .toConsole) })
   controller-unmoved kept-and-cut n =
-      inr (radio.kept-and-cut (bench.action letters.X-down 0 0 []), (refl, ap (λ (u : I). controllerGoes cut (controllerRefused n (controllerBack (k .bench .controller)) y) (record { console = consoleBack (k .bench .console); console-kept = record { 0 = k .console-kept }; controller = controllerBack (k .bench .controller); controller-kept = u; toController = map toControllerBytes (k .bench .toController); toConsole = map toConsoleBytes (k .bench .toConsole) })) (controller-used (k .bench .controller))))
+      inr (radio.kept-and-cut (bench.action letters.X-down 0 0 []), (refl, ap (λ (u : code.Numbers). controllerGoes cut (controllerRefused n (controllerBack (k .bench .controller)) y) (record { console = consoleBack (k .bench .console); console-kept = numbersBack (k .console-kept); controller = controllerBack (k .bench .controller); controller-kept = u; toController = map toControllerBytes (k .bench .toController); toConsole = map toConsoleBytes (k .bench .toConsole) })) (controller-kept-so (k .bench .controller) (ok .controller .numbers))))
   controller-unmoved cut n = controller-cut (controllerRefused n (controllerBack (k .bench .controller)) y)
+
+  controller-sound : (l : Letter) (x : ℕ) (act : rules.ControllerAct Row) → asks (k .bench) l x [] ≡ Asked.controller act → numbering .sound (rules.controller-step numbering (k .bench .controller) act .after .numbers) ≡ true
+  unfolding happens aired
+  controller-sound l x act q =
+      subst (λ (z : Asked Row). numbering .sound (aired numbering isMessage (k .bench) z .after .controller .numbers) ≡ true) q
+      (happens-ok numbering isMessage numbering-lawful k (radio.acts (bench.action l x 0 [])) ok .controller .numbers)
 
   controller-acted : (w : Reach) (l : Letter) → letter byte ≡ some l → (x : ℕ) (act : rules.ControllerAct Row) → asks (k .bench) l x [] ≡ Asked.controller act
       → Controller-moved w (controllerTold (rules.controller-step numbering (k .bench .controller) act) y)
@@ -280,8 +296,8 @@ module _ (k : Link Numbers Row) (kept : Kept k) (byte : ℕ) (y : List ℕ) wher
         radio.acts (bench.action l x 0 []),
         (
           ap (λ (z : Asked Row). shown (bench.action l x 0 []) (aired numbering isMessage (k .bench) z .report)) q ∙ controller-shown byte x l e (d .report),
-          (λ i. record { console = consoleBack (k .bench .console); console-kept = record { 0 = k .console-kept }; controller = controllerBack (d .after); controller-kept = controller-used (d .after) i; toController = map toControllerBytes (k .bench .toController); toConsole = to-console-leaves (d .sent) y (k .bench .toConsole) i })
-              ∙ ap (λ (z : Asked Row). boxesOf (radio.goes-on (aired numbering isMessage (k .bench) z .after) (keeps z (aired numbering isMessage (k .bench) z .after) k))) (sym q),
+          (λ i. record { console = consoleBack (k .bench .console); console-kept = numbersBack (k .console-kept); controller = controllerBack (d .after); controller-kept = controller-kept-so (d .after) (controller-sound l x act q) i; toController = map toControllerBytes (k .bench .toController); toConsole = to-console-leaves (d .sent) y (k .bench .toConsole) i })
+              ∙ ap (λ (z : Asked Row). boxesOf (radio.goes-on (aired numbering isMessage (k .bench) z .after) (keeps numbering z (aired numbering isMessage (k .bench) z .after) k))) (sym q),
         ),
       )
   controller-acted kept-and-cut l e x act q =
@@ -290,8 +306,8 @@ module _ (k : Link Numbers Row) (kept : Kept k) (byte : ℕ) (y : List ℕ) wher
         radio.kept-and-cut (bench.action l x 0 []),
         (
           ap (λ (z : Asked Row). radio.fall-of z) q,
-          ap (λ (u : I). controllerGoes cut (controllerTold d y) (record { console = consoleBack (k .bench .console); console-kept = record { 0 = k .console-kept }; controller = controllerBack (k .bench .controller); controller-kept = u; toController = map toControllerBytes (k .bench .toController); toConsole = map toConsoleBytes (k .bench .toConsole) })) (controller-used (d .after))
-              ∙ ap (λ (z : Asked Row). boxesOf (fails z (keeps z (aired numbering isMessage (k .bench) z .after) k))) (sym q),
+          ap (λ (u : code.Numbers). controllerGoes cut (controllerTold d y) (record { console = consoleBack (k .bench .console); console-kept = numbersBack (k .console-kept); controller = controllerBack (k .bench .controller); controller-kept = u; toController = map toControllerBytes (k .bench .toController); toConsole = map toConsoleBytes (k .bench .toConsole) })) (controller-kept-so (d .after) (controller-sound l x act q))
+              ∙ ap (λ (z : Asked Row). boxesOf (fails z (keeps numbering z (aired numbering isMessage (k .bench) z .after) k))) (sym q),
         ),
       )
   controller-acted cut l e x act q = controller-cut (controllerTold (rules.controller-step numbering (k .bench .controller) act) y)
@@ -300,19 +316,19 @@ pub moved : (k : Link Numbers Row) → Ok k → Kept k → (e : Event) → Hones
 moved k ok kept (at-console w byte m p y) h =
     by _ (console-call (k .bench) (consoleBack (k .bench .console)) (console-fine k ok .0) m p y byte (λ s. console-finds k ok p (h s)))
   where
-    by : (d : ConsoleAlone) → ConsoleCall (k .bench) (consoleBack (k .bench .console)) (console-fine k ok .0) m p y byte d → Console-moved k kept byte m y w d
-    by d (inl (n, r)) = subst (Console-moved k kept byte m y w) (sym r) (console-unmoved k kept byte m y w n)
+    by : (d : ConsoleAlone) → ConsoleCall (k .bench) (consoleBack (k .bench .console)) (console-fine k ok .0) m p y byte d → Console-moved k ok kept byte m y w d
+    by d (inl (n, r)) = subst (Console-moved k ok kept byte m y w) (sym r) (console-unmoved k ok kept byte m y w n)
     by d (inr (l, (e, (x, (act, (q, r)))))) =
-        subst (Console-moved k kept byte m y w) (sym (r ∙ ap (λ (c : rules.Console Numbers Row). consoleTold (rules.console-step numbering isMessage c act) y) (console-fine k ok .1)))
-        (console-acted k kept byte m y w l e x act q)
+        subst (Console-moved k ok kept byte m y w) (sym (r ∙ ap (λ (c : rules.Console Numbers Row). consoleTold (rules.console-step numbering isMessage c act) y) (console-fine k ok .1)))
+        (console-acted k ok kept byte m y w l e x act q)
 moved k ok kept (at-controller w byte p y) h =
     by _ (controller-call (k .bench) (controllerBack (k .bench .controller)) (controller-fine k ok .0) [] p y byte (λ s. controller-finds k ok p (h s)))
   where
-    by : (d : ControllerAlone) → ControllerCall (k .bench) (controllerBack (k .bench .controller)) (controller-fine k ok .0) [] p y byte d → Controller-moved k kept byte y w d
-    by d (inl (n, r)) = subst (Controller-moved k kept byte y w) (sym r) (controller-unmoved k kept byte y w n)
+    by : (d : ControllerAlone) → ControllerCall (k .bench) (controllerBack (k .bench .controller)) (controller-fine k ok .0) [] p y byte d → Controller-moved k ok kept byte y w d
+    by d (inl (n, r)) = subst (Controller-moved k ok kept byte y w) (sym r) (controller-unmoved k ok kept byte y w n)
     by d (inr (l, (e, (x, (act, (q, r)))))) =
-        subst (Controller-moved k kept byte y w) (sym (r ∙ ap (λ (c : rules.Controller Numbers). controllerTold (rules.controller-step numbering c act) y) (controller-fine k ok .1)))
-        (controller-acted k kept byte y w l e x act q)
+        subst (Controller-moved k ok kept byte y w) (sym (r ∙ ap (λ (c : rules.Controller Numbers). controllerTold (rules.controller-step numbering c act) y) (controller-fine k ok .1)))
+        (controller-acted k ok kept byte y w l e x act q)
 
 -- ## All of them
 
@@ -338,28 +354,36 @@ onto past k ok kept (e ∷ es) h = by (moved k ok kept e (h .0)) (λ p q x z v. 
 
 -- ## The theorem
 
-module _ (j : J) (i : I) (p : j .0 < 2 ^ 32) (q : i .0 < 2 ^ 32) (es : List Event) (honest : AllHonest (start j i) es) where
+-- two boxes that start from what two records hold
+module _ (j i : code.Numbers) (p : Stored j) (q : Stored i) where
   abbrev from : Link Numbers Row
-  from = radio.start (j .0) (i .0)
+  from = radio.start (numbersMeans j) (numbersMeans i)
 
-  started : Onto [] from es
+  pub from-kept : Kept from
   unfolding bench.fresh
-  started =
-      onto [] from
-      (start-ok numbering isMessage (j .0) (i .0) (sound-is (j .0) p) (sound-is (i .0) q))
-      (record { console = refl; controller = refl }) es honest
+  from-kept =
+      let again : (n : code.Numbers) → Stored n → numbersMeans n ≡ numbering .back (numbersMeans n) = λ n h. ap numbersMeans (h .all-used) ∙ sym (back-is-reserved (numbersMeans n) (h .sound)) in
+      record { console = again j p; controller = again i q }
+
+  pub from-ok : Ok from
+  from-ok = start-ok numbering isMessage (numbersMeans j) (numbersMeans i) (p .sound) (q .sound)
+
+module _ (j i : code.Numbers) (p : Stored j) (q : Stored i) (es : List Event) (honest : AllHonest (start j i) es) where
+  started : Onto [] (from j i p q) es
+  unfolding bench.fresh
+  started = onto [] (from j i p q) (from-ok j i p q) (from-kept j i p q) es honest
 
   pub boxes-right : BoxesRight j i es
   unfolding bench.fresh
   boxes-right =
       let hs = started .0 in
-      let r = radio-right numbering isMessage numbering-lawful (j .0) (i .0) hs in
+      let r = radio-right numbering isMessage numbering-lawful (numbersMeans j) (numbersMeans i) hs in
       record {
         happenings = hs;
         right = r .right;
-        own = sym (map-written unnumbered (rows-left numbering isMessage [] (radio.start (j .0) (i .0)) hs) []) ∙ ap (λ (l : List (Option (log.Event Row))). written l []) (r .own) ∙ started .1;
+        own = sym (map-written unnumbered (rows-left numbering isMessage [] (radio.start (numbersMeans j) (numbersMeans i)) hs) []) ∙ ap (λ (l : List (Option (log.Event Row))). written l []) (r .own) ∙ started .1;
       }
 
   -- in plain words
-  pub boxes-plain : Plain (radio-log numbering isMessage (j .0) (i .0) (boxes-right .happenings))
-  boxes-plain = right-plain (radio-log numbering isMessage (j .0) (i .0) (boxes-right .happenings)) (boxes-right .right)
+  pub boxes-plain : Plain (radio-log numbering isMessage (numbersMeans j) (numbersMeans i) (boxes-right .happenings))
+  boxes-plain = right-plain (radio-log numbering isMessage (numbersMeans j) (numbersMeans i) (boxes-right .happenings)) (boxes-right .right)

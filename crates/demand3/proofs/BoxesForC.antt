@@ -1,40 +1,43 @@
 -- Demand 3 of two boxes written in C, from that of the ends run alone: call by call, states, records and bytes told are those of the ends.
-use Prim.Native.Nat.{ℕ, _+_, _*_, _/_, _%_, _<_, _^_}
+use Prim.Native.Nat.{ℕ, _+_, _*_, _/_, _%_, _<_, _≤_, _^_}
 use mathlib.Core.Path.{_≡_, refl, sym, ap, ap₂, subst, _∙_}
 use mathlib.Core.Logic.{inl, inr}
-use mathlib.Core.Bool.{Bool, true, false, true≢false}
+use mathlib.Core.Bool.{Bool, true, false, _&&_, true≢false}
 use mathlib.Core.Option.{Option}
 use mathlib.Core.List.{List, [], _∷_, map}
-use native.Mathlib.Nat.{add-zero, div-eq-of-lt, mod-eq-of-lt}
+use native.Mathlib.Nat.{add-zero, div-eq-of-lt, le-refl, mod-eq-of-lt}
 use native.Mathlib.Omega.{arith}
 use lib.ListN.{length}
-use lib.Dec.{eqb}
-use borrow.Author.Tests.{eqb-true, eq-eqb, ne-eqb, not-false}
+use lib.Dec.{eqb, leb}
+use borrow.Author.Tests.{eqb-true, eq-eqb, ne-eqb, leb-true, not-false}
 use Rattle.ground.specs.Cell.{isMessage}
 use Rattle.ground.specs.Choice.{if_then_else_}
 use Rattle.ground.specs.First.{first}
+use Rattle.ground.proofs.Tests.{and-left, and-right}
 use Rattle.wire.specs.Number.{bytesOf}
-use Rattle.wire.specs.Record.{endOf, recordBytes, recordWriteRefusal, recordWritten}
-use Rattle.wire.specs.declared.I.{I}
-use Rattle.wire.specs.declared.J.{J}
-use Rattle.wire.specs.declared.LastUsed.{LastUsed}
-use Rattle.wire.specs.declared.LastUsed.the-variants as last-used
-use Rattle.wire.specs.declared.ReadRecord.{ReadRecord}
-use Rattle.wire.specs.declared.ReadRecord.the-variants as read-record
+use Rattle.wire.specs.Record.{isOld, endOf, numberOf, blockOf, isGood, recordBytes, recordRead, recordWriteRefusal, recordWritten, renewed}
+use Rattle.wire.specs.declared.NumberRecord.{NumberRecord}
+use Rattle.wire.specs.declared.NumberRecord.the-variants as number-record
+use Rattle.wire.proofs.Carrying.{renewed-end, renewed-number, renewed-block}
 use Rattle.wire.proofs.RecordTrips.{record-read-back}
-use Rattle.rules.specs.Supply.{numbering, Numbers}
+use Rattle.rules.specs.Supply as rules
+use Rattle.rules.specs.Supply.{numbering, largest}
 use Rattle.rules.specs.Bench as bench
 use Rattle.rules.specs.Log as log
 use Rattle.rules.specs.Plain.{Plain}
 use Rattle.rules.specs.Demand3.{written}
 use Rattle.rules.specs.Radio as radio
 use Rattle.rules.specs.Radio.{Link, happens, radio-log}
-use Rattle.rules.proofs.Supply.{numbering-lawful}
+use Rattle.rules.proofs.Supply.{numbering-lawful, sound-block, sound-so}
 use Rattle.rules.proofs.Plain.{right-plain}
-use Rattle.rules.proofs.RadioWellFormed.{happens-ok, start-ok}
-use Rattle.numbers.proofs.Range.{sound-is, sound-below}
-use Rattle.ends_console.specs.Fields.{consoleOk, lastUsedJ, downedConsole}
-use Rattle.ends_controller.specs.Fields.{controllerOk, lastUsedI, downedController}
+use Rattle.rules.proofs.RadioWellFormed.{happens-ok}
+use Rattle.numbers.specs.Numbers.{numbersMeans, numbersBack, numbersKept, numbersFresh}
+use Rattle.numbers.specs.declared.Numbers.{Numbers}
+use Rattle.numbers.proofs.Range.{sound-fits}
+use Rattle.ends_console.specs.Fields.{consoleOk, consoleKept, downedConsole}
+use Rattle.ends_console.proofs.FieldsRead as console-read
+use Rattle.ends_controller.specs.Fields.{controllerOk, controllerKept, downedController}
+use Rattle.ends_controller.proofs.FieldsRead as controller-read
 use Rattle.ends.specs.declared.Report.{Report}
 use Rattle.ends.specs.declared.Report.the-variants as report
 use Rattle.ends_console.specs.declared.fields.Console.{Console}
@@ -43,10 +46,8 @@ use Rattle.alone.specs.ConsoleAlone.{ConsoleAlone, consoleRefused, consoleAlone
 use Rattle.alone.specs.ControllerAlone.{ControllerAlone, controllerRefused, controllerAlone}
 use Rattle.alone.proofs.Refusals.{console-refusal-leaves, controller-refusal-leaves}
 use Rattle.boundary.specs.State as state
-use Rattle.boundary.specs.State.{isRefusal, changed, marks, told, stateRecordPut, startRefusal, started, lastIn, lastOf}
-use Rattle.boundary.specs.Console as console
+use Rattle.boundary.specs.State.{isRefusal, changed, marks, told, stateRecordPut, startRefusal, started, startIn, startOf}
 use Rattle.boundary.specs.Console.{ConsoleStep, consoleBytes, consoleStep}
-use Rattle.boundary.specs.Controller as controller
 use Rattle.boundary.specs.Controller.{ControllerStep, controllerBytes, controllerStep, deliveredTo}
 use Rattle.boundary.proofs.ConsoleWellFormed as console-left
 use Rattle.boundary.proofs.ConsoleWellFormed.{console-refusal-number}
@@ -58,8 +59,8 @@ use Rattle.boundary.proofs.ToldByte.{Refusal, keeps-told, sends-told}
 use Rattle.demand3.specs.BenchForC.{byteSays}
 use Rattle.demand3.specs.Boxes as alone
 use Rattle.demand3.specs.Boxes.{Reach, through, kept-and-cut, cut, leaves, called}
-use Rattle.demand3.specs.BoxesForC.{Boxes, Event, at-console, at-controller, keepTold, sentTold, reportTold, consoleKeeps, controllerKeeps, consoleStarts, controllerStarts, consoleGoes, controllerGoes, after, start, consoleShows, controllerShows, shows, allShown, Honest, AllHonest, BoxesForCRight}
-use Rattle.demand3.proofs.Boxes.{Row, Ok, boxesOf, Kept, happens-kept, Moved, moved, console-used, controller-used, boxes-right}
+use Rattle.demand3.specs.BoxesForC.{Boxes, Event, at-console, at-controller, keepTold, sentTold, reportTold, buffer, consoleKeeps, controllerKeeps, consoleStarts, controllerStarts, consoleGoes, controllerGoes, after, numbersOf, start, consoleShows, controllerShows, shows, allShown, Honest, AllHonest, RecordOf, BoxesForCRight}
+use Rattle.demand3.proofs.Boxes.{Row, Ok, boxesOf, Kept, happens-kept, Moved, moved, console-kept-so, controller-kept-so, from-kept, from-ok, boxes-right}
 
 -- ## What the byte says
 
@@ -103,52 +104,69 @@ says-told (report.Refused n) sent keep e = absurd (true≢false e)
 
 -- ## Records
 
-module _ (u : LastUsed) where
-  record-long : length (recordBytes u) ≡ 12
-  unfolding recordBytes bytesOf
-  record-long = refl
+-- what is kept holds these numbers: a start takes them from it
+abbrev Holds : ℕ → List ℕ → Numbers → Type 0
+Holds end kept n = startIn end (recordRead kept) ≡ record { refusal = 0; number = n .reserved; block = n .block }
 
-  -- kept over any record
-  record-put : (v : LastUsed) → stateRecordPut true u (recordBytes v) ≡ recordBytes u
-  unfolding stateRecordPut recordWritten recordWriteRefusal first if_then_else_ recordBytes bytesOf
-  record-put v = refl
+-- a start from a record of version 1 is a fresh start with its number
+pub old-is-fresh : (n : ℕ) → (numbersOf (number-record.ConsoleOld (record { 0 = n })) ≡ numbersFresh n) × (numbersOf (number-record.ControllerOld (record { 0 = n })) ≡ numbersFresh n)
+old-is-fresh n = (refl, refl)
 
--- a record is kept where the number has changed, and it is the one of the number after the step
-kept-record : (end : ℕ → LastUsed) (before now : ℕ) (keep : Bool) → keep ≡ changed before now
-    → (if keep then stateRecordPut true (end now) (recordBytes (end before)) else recordBytes (end before)) ≡ recordBytes (end now)
-unfolding if_then_else_
-kept-record end before now true e = record-put (end now) (end before)
-kept-record end before now false e = ap (λ (n : ℕ). recordBytes (end n)) (eqb-true before now (not-false (eqb before now) (sym e)))
+-- a record of either version holds its numbers
+record-holds : (end : ℕ) (r : NumberRecord) → endOf r ≡ end → numberOf r < 2 ^ 32 → isGood r ≡ true → Holds end (recordBytes r) (numbersOf r)
+unfolding startOf if_then_else_
+record-holds end r e h g = ap (startIn end) (record-read-back r h g) ∙ rw (eq-eqb (endOf (renewed r)) end (renewed-end r ∙ e))
+
+-- ## One law for both ends, over the end whose record it is
+
+module _ (end : ℕ) (record-of : Numbers → NumberRecord) (ended : (n : Numbers) → endOf (record-of n) ≡ end) (numbered : (n : Numbers) → numberOf (record-of n) ≡ n .reserved) (blocked : (n : Numbers) → blockOf (record-of n) ≡ n .block) (new : (n : Numbers) → isOld (record-of n) ≡ false) (same : (n : Numbers) → renewed (record-of n) ≡ record-of n) where
+  module _ (n : Numbers) (sound : numbering .sound (numbersMeans n) ≡ true) where
+    good : isGood (record-of n) ≡ true
+    good = rw (new n, blocked n) (sound-block (numbersMeans n) sound)
+
+    -- the entry writes it
+    record-put : stateRecordPut true (record-of n) buffer ≡ recordBytes (record-of n)
+    unfolding stateRecordPut recordWritten recordWriteRefusal first if_then_else_
+    record-put = rw (good, new n)
+
+    own-holds : Holds end (recordBytes (record-of n)) n
+    own-holds =
+        record-holds end (record-of n) (ended n) (subst (λ (x : ℕ). x < 2 ^ 32) (sym (numbered n)) (sound-fits (numbersMeans n) sound .reserved)) good
+        ∙ rw (same n, numbered n, blocked n)
+
+    -- a record is kept where it has changed: what is kept then holds the numbers after the step
+    kept-holds : (before : Numbers) (kept : List ℕ) (keep : Bool) → keep ≡ changed before n → Holds end kept before → Holds end (if keep then stateRecordPut true (record-of n) buffer else kept) n
+    unfolding if_then_else_
+    kept-holds before kept true e h = rw record-put own-holds
+    kept-holds before kept false e h =
+        let r = eqb (before .reserved) (n .reserved) in
+        let b = eqb (before .block) (n .block) in
+        let g = not-false (r && b) (sym e) in
+        let x = eqb-true (before .reserved) (n .reserved) (and-left r b g) in
+        let y = eqb-true (before .block) (n .block) (and-right r b g) in
+        h ∙ (λ i. record { refusal = 0; number = x i; block = y i })
 
 -- ## A start after power loss
 
-starts : (n end : ℕ) (u : LastUsed) (s bytes : List ℕ) → length s ≡ n → endOf u ≡ end → started n s (lastIn end (read-record.Is u)) bytes ≡ bytes
-unfolding started startRefusal lastOf if_then_else_
-starts n end u s bytes l e = rw (eq-eqb (length s) n l, eq-eqb (endOf u) end e)
+console-starts : (s kept : List ℕ) (n : Numbers) → Holds 1 kept n → length s ≡ 36 → consoleStarts s kept ≡ consoleBytes (downedConsole (numbersKept (n .reserved) (n .block)))
+unfolding started startRefusal if_then_else_
+console-starts s kept n h l =
+    (λ i. started 36 s (h i) (consoleBytes (downedConsole (numbersKept (h i .number) (h i .block))))) ∙ rw (eq-eqb (length s) 36 l)
 
-console-starts : (s : List ℕ) (j : J) → j .0 < 2 ^ 32 → length s ≡ 30 → consoleStarts s (recordBytes (last-used.Console j)) ≡ consoleBytes (downedConsole j)
-unfolding lastOf if_then_else_
-console-starts s j h l =
-    let back = record-read-back (last-used.Console j) h in
-    ap (λ (r : ReadRecord). started 30 s (lastIn 1 r) (consoleBytes (downedConsole (record { 0 = lastIn 1 r .number })))) back
-    ∙ starts 30 1 (last-used.Console j) s (consoleBytes (downedConsole j)) l refl
+controller-starts : (s kept : List ℕ) (n : Numbers) → Holds 2 kept n → length s ≡ 23 → controllerStarts s kept ≡ controllerBytes (downedController (numbersKept (n .reserved) (n .block)))
+unfolding started startRefusal if_then_else_
+controller-starts s kept n h l =
+    (λ i. started 23 s (h i) (controllerBytes (downedController (numbersKept (h i .number) (h i .block))))) ∙ rw (eq-eqb (length s) 23 l)
 
-controller-starts : (s : List ℕ) (i : I) → i .0 < 2 ^ 32 → length s ≡ 17 → controllerStarts s (recordBytes (last-used.Controller i)) ≡ controllerBytes (downedController i)
-unfolding lastOf if_then_else_
-controller-starts s i h l =
-    let back = record-read-back (last-used.Controller i) h in
-    ap (λ (r : ReadRecord). started 17 s (lastIn 2 r) (controllerBytes (downedController (record { 0 = lastIn 2 r .number })))) back
-    ∙ starts 17 2 (last-used.Controller i) s (controllerBytes (downedController i)) l refl
+-- ## The boxes in C that two ends stand for, with the records that are kept
 
--- ## The boxes in C that two ends stand for
-
-abbrev inC : alone.Boxes → Boxes
-inC b =
+abbrev inC : List ℕ → List ℕ → alone.Boxes → Boxes
+inC kept-J kept-I b =
     record {
       console = consoleBytes (b .console);
-      console-kept = recordBytes (last-used.Console (b .console-kept));
+      console-kept = kept-J;
       controller = controllerBytes (b .controller);
-      controller-kept = recordBytes (last-used.Controller (b .controller-kept));
+      controller-kept = kept-I;
       toController = b .toController;
       toConsole = b .toConsole;
     }
@@ -160,8 +178,14 @@ plain (at-controller w l p y lent) = alone.at-controller w l p y
 
 -- ## A call of the console
 
+abbrev console-record : Numbers → NumberRecord
+console-record n = number-record.Console (record { 0 = n .reserved }) (n .block)
+
+abbrev controller-record : Numbers → NumberRecord
+controller-record n = number-record.Controller (record { 0 = n .reserved }) (n .block)
+
 module _ (c : Console) (typed : console-trips.Typed c) where
-  console-long : length (consoleBytes c) ≡ 30
+  console-long : length (consoleBytes c) ≡ 36
   unfolding consoleBytes bytesOf
   console-long = rw (typed .message)
 
@@ -169,8 +193,8 @@ module _ (c : Console) (typed : console-trips.Typed c) where
   abbrev console-tells : ConsoleAlone → ConsoleStep
   console-tells d =
       record {
-        told = told (d .outcome .report) (d .outcome .sent) (changed (c .numbers .used) (d .outcome .console .numbers .used));
-        state = if isRefusal (d .outcome .report) then consoleBytes c else state.written 30 (consoleBytes c) (consoleBytes (d .outcome .console));
+        told = told (d .outcome .report) (d .outcome .sent) (changed (c .numbers) (d .outcome .console .numbers));
+        state = if isRefusal (d .outcome .report) then consoleBytes c else state.written 36 (consoleBytes c) (consoleBytes (d .outcome .console));
         reply = d .reply;
       }
 
@@ -179,51 +203,52 @@ module _ (c : Console) (typed : console-trips.Typed c) where
       ap
       (λ (z : Console).
       record {
-        told = told (consoleAlone z l m p y .outcome .report) (consoleAlone z l m p y .outcome .sent) (changed (z .numbers .used) (consoleAlone z l m p y .outcome .console .numbers .used));
+        told = told (consoleAlone z l m p y .outcome .report) (consoleAlone z l m p y .outcome .sent) (changed (z .numbers) (consoleAlone z l m p y .outcome .console .numbers));
         state =
             if isRefusal (consoleAlone z l m p y .outcome .report) then consoleBytes c
-            else state.written 30 (consoleBytes c) (consoleBytes (consoleAlone z l m p y .outcome .console));
+            else state.written 36 (consoleBytes c) (consoleBytes (consoleAlone z l m p y .outcome .console));
         reply = consoleAlone z l m p y .reply;
       })
       (console-trips.console-read-back c typed)
 
-  -- told and left is what the end comes to, and the record that is kept is its record
+  -- told and left is what the end comes to, and the record that is kept holds its numbers
   pub record Console-told (d : ConsoleAlone) : Type 0 where
     pub sends : sentTold (console-tells d .told) ≡ d .outcome .sent
     pub says : reportTold (console-tells d .told) ≡ d .outcome .report
     pub leaves : console-tells d .state ≡ consoleBytes (d .outcome .console)
-    pub keeps : consoleKeeps (console-tells d) (recordBytes (console.consoleLast c)) ≡ recordBytes (console.consoleLast (d .outcome .console))
+    pub keeps : (kept : List ℕ) → Holds 1 kept (c .numbers) → Holds 1 (consoleKeeps (console-tells d) kept) (d .outcome .console .numbers)
 
   console-refused-told : (n : ℕ) (y : List ℕ) → Refusal n → Console-told (consoleRefused n c y)
   unfolding consoleKeeps if_then_else_
-  console-refused-told n y h = record { sends = refusal-sends n h; says = refusal-says n h; leaves = refl; keeps = rw (refusal-keeps n h) refl }
+  console-refused-told n y h = record { sends = refusal-sends n h; says = refusal-says n h; leaves = refl; keeps = λ kept k. rw (refusal-keeps n h) k }
 
   console-carried-told : (d : ConsoleAlone) → isRefusal (d .outcome .report) ≡ false → consoleOk (d .outcome .console) ≡ true → console-trips.Typed (d .outcome .console) → Console-told d
   unfolding consoleKeeps state.written if_then_else_
   console-carried-told d e ok left =
-      let keep = changed (c .numbers .used) (d .outcome .console .numbers .used) in
+      let keep = changed (c .numbers) (d .outcome .console .numbers) in
       let back = console-trips.console-read-back (d .outcome .console) left in
       record {
         sends = sends-told (d .outcome .report) (d .outcome .sent) keep e;
         says = says-told (d .outcome .report) (d .outcome .sent) keep e;
-        leaves = rw (e, eq-eqb (length (consoleBytes c)) 30 console-long);
+        leaves = rw (e, eq-eqb (length (consoleBytes c)) 36 console-long);
         keeps =
-            rw (e, eq-eqb (length (consoleBytes c)) 30 console-long, back, ok)
-            (kept-record (λ n. last-used.Console (record { 0 = n })) (c .numbers .used) (d .outcome .console .numbers .used) _ (keeps-told (d .outcome .report) (d .outcome .sent) keep e));
+            λ kept k.
+            rw (e, eq-eqb (length (consoleBytes c)) 36 console-long, back, ok)
+            (kept-holds 1 console-record (λ n. refl) (λ n. refl) (λ n. refl) (λ n. refl) (λ n. refl) (d .outcome .console .numbers) (console-read.ok-sound (d .outcome .console) ok) (c .numbers) kept _ (keeps-told (d .outcome .report) (d .outcome .sent) keep e) k);
       }
 
 -- ## A call of the controller
 
 module _ (c : Controller) (typed : controller-trips.Typed c) where
-  controller-long : length (controllerBytes c) ≡ 17
+  controller-long : length (controllerBytes c) ≡ 23
   unfolding controllerBytes bytesOf
   controller-long = refl
 
   abbrev controller-tells : List ℕ → ControllerAlone → ControllerStep
   controller-tells lent d =
       record {
-        told = told (d .outcome .report) (d .outcome .sent) (changed (c .numbers .used) (d .outcome .controller .numbers .used));
-        state = if isRefusal (d .outcome .report) then controllerBytes c else state.written 17 (controllerBytes c) (controllerBytes (d .outcome .controller));
+        told = told (d .outcome .report) (d .outcome .sent) (changed (c .numbers) (d .outcome .controller .numbers));
+        state = if isRefusal (d .outcome .report) then controllerBytes c else state.written 23 (controllerBytes c) (controllerBytes (d .outcome .controller));
         reply = d .reply;
         delivered = deliveredTo (d .outcome .report) (d .outcome .message) lent;
       }
@@ -233,10 +258,10 @@ module _ (c : Controller) (typed : controller-trips.Typed c) where
       ap
       (λ (z : Controller).
       record {
-        told = told (controllerAlone z l p y .outcome .report) (controllerAlone z l p y .outcome .sent) (changed (z .numbers .used) (controllerAlone z l p y .outcome .controller .numbers .used));
+        told = told (controllerAlone z l p y .outcome .report) (controllerAlone z l p y .outcome .sent) (changed (z .numbers) (controllerAlone z l p y .outcome .controller .numbers));
         state =
             if isRefusal (controllerAlone z l p y .outcome .report) then controllerBytes c
-            else state.written 17 (controllerBytes c) (controllerBytes (controllerAlone z l p y .outcome .controller));
+            else state.written 23 (controllerBytes c) (controllerBytes (controllerAlone z l p y .outcome .controller));
         reply = controllerAlone z l p y .reply;
         delivered = deliveredTo (controllerAlone z l p y .outcome .report) (controllerAlone z l p y .outcome .message) lent;
       })
@@ -246,29 +271,30 @@ module _ (c : Controller) (typed : controller-trips.Typed c) where
     pub sends : sentTold (controller-tells lent d .told) ≡ d .outcome .sent
     pub says : reportTold (controller-tells lent d .told) ≡ d .outcome .report
     pub leaves : controller-tells lent d .state ≡ controllerBytes (d .outcome .controller)
-    pub keeps : controllerKeeps (controller-tells lent d) (recordBytes (controller.controllerLast c)) ≡ recordBytes (controller.controllerLast (d .outcome .controller))
+    pub keeps : (kept : List ℕ) → Holds 2 kept (c .numbers) → Holds 2 (controllerKeeps (controller-tells lent d) kept) (d .outcome .controller .numbers)
 
   controller-refused-told : (lent : List ℕ) (n : ℕ) (y : List ℕ) → Refusal n → Controller-told lent (controllerRefused n c y)
   unfolding controllerKeeps if_then_else_
-  controller-refused-told lent n y h = record { sends = refusal-sends n h; says = refusal-says n h; leaves = refl; keeps = rw (refusal-keeps n h) refl }
+  controller-refused-told lent n y h = record { sends = refusal-sends n h; says = refusal-says n h; leaves = refl; keeps = λ kept k. rw (refusal-keeps n h) k }
 
   controller-carried-told : (lent : List ℕ) (d : ControllerAlone) → isRefusal (d .outcome .report) ≡ false → controllerOk (d .outcome .controller) ≡ true → controller-trips.Typed (d .outcome .controller) → Controller-told lent d
   unfolding controllerKeeps state.written if_then_else_
   controller-carried-told lent d e ok left =
-      let keep = changed (c .numbers .used) (d .outcome .controller .numbers .used) in
+      let keep = changed (c .numbers) (d .outcome .controller .numbers) in
       let back = controller-trips.controller-read-back (d .outcome .controller) left in
       record {
         sends = sends-told (d .outcome .report) (d .outcome .sent) keep e;
         says = says-told (d .outcome .report) (d .outcome .sent) keep e;
-        leaves = rw (e, eq-eqb (length (controllerBytes c)) 17 controller-long);
+        leaves = rw (e, eq-eqb (length (controllerBytes c)) 23 controller-long);
         keeps =
-            rw (e, eq-eqb (length (controllerBytes c)) 17 controller-long, back, ok)
-            (kept-record (λ n. last-used.Controller (record { 0 = n })) (c .numbers .used) (d .outcome .controller .numbers .used) _ (keeps-told (d .outcome .report) (d .outcome .sent) keep e));
+            λ kept k.
+            rw (e, eq-eqb (length (controllerBytes c)) 23 controller-long, back, ok)
+            (kept-holds 2 controller-record (λ n. refl) (λ n. refl) (λ n. refl) (λ n. refl) (λ n. refl) (d .outcome .controller .numbers) (controller-read.ok-sound (d .outcome .controller) ok) (c .numbers) kept _ (keeps-told (d .outcome .report) (d .outcome .sent) keep e) k);
       }
 
 -- ## Where the rules' link stands
 
-module _ (k : Link Numbers Row) (ok : Ok k) where
+module _ (k : Link rules.Numbers Row) (ok : Ok k) where
   console-at : console-trips.Typed (boxesOf k .console)
   console-at = console-left.fields-left (k .bench .console) (ok .console) .1
 
@@ -283,7 +309,7 @@ module _ (k : Link Numbers Row) (ok : Ok k) where
 
   -- the link that an event leads to
   pub record Next (e : alone.Event) : Type 0 where
-    pub link : Link Numbers Row
+    pub link : Link rules.Numbers Row
     pub fine : Ok link
     pub kept : Kept link
     pub is : alone.after (boxesOf k) e ≡ boxesOf link
@@ -298,19 +324,30 @@ module _ (k : Link Numbers Row) (ok : Ok k) where
 
 -- ## Every event
 
-abbrev Same : Link Numbers Row → Event → Type 0
-Same k e = (after (inC (boxesOf k)) e ≡ inC (alone.after (boxesOf k) (plain e))) × (shows (inC (boxesOf k)) e ≡ alone.shows (boxesOf k) (plain e))
+-- what C's boxes come to are these boxes, whatever the records that are kept
+abbrev Goes : Boxes → alone.Boxes → Type 0
+Goes z b = z ≡ inC (z .console-kept) (z .controller-kept) b
 
-module _ (k : Link Numbers Row) (ok : Ok k) (kept : Kept k) where
+-- each box has kept a record that holds its end's numbers
+pub record Holding (z : Boxes) (b : alone.Boxes) : Type 0 where
+  pub console : Holds 1 (z .console-kept) (b .console-kept)
+  pub controller : Holds 2 (z .controller-kept) (b .controller-kept)
+
+pub record Same (k : Link rules.Numbers Row) (kept-J kept-I : List ℕ) (e : Event) : Type 0 where
+  pub goes : Goes (after (inC kept-J kept-I (boxesOf k)) e) (alone.after (boxesOf k) (plain e))
+  pub holding : Holding (after (inC kept-J kept-I (boxesOf k)) e) (alone.after (boxesOf k) (plain e))
+  pub shown : shows (inC kept-J kept-I (boxesOf k)) e ≡ alone.shows (boxesOf k) (plain e)
+
+module _ (k : Link rules.Numbers Row) (ok : Ok k) (kept : Kept k) where
   abbrev b : alone.Boxes
   b = boxesOf k
 
-  -- the record that the box has kept is the console's
-  console-kept-is : recordBytes (last-used.Console (b .console-kept)) ≡ recordBytes (console.consoleLast (b .console))
-  console-kept-is = ap (λ (j : J). recordBytes (last-used.Console j)) (ap (λ (n : Numbers). record { 0 = n }) (kept .console) ∙ sym (console-used (k .bench .console)))
+  -- what the box has kept is the console's
+  console-kept-is : b .console-kept ≡ consoleKept (b .console)
+  console-kept-is = ap numbersBack (kept .console) ∙ sym (console-kept-so (k .bench .console) (ok .console .numbers))
 
-  controller-kept-is : recordBytes (last-used.Controller (b .controller-kept)) ≡ recordBytes (controller.controllerLast (b .controller))
-  controller-kept-is = ap (λ (i : I). recordBytes (last-used.Controller i)) (ap (λ (n : Numbers). record { 0 = n }) (kept .controller) ∙ sym (controller-used (k .bench .controller)))
+  controller-kept-is : b .controller-kept ≡ controllerKept (b .controller)
+  controller-kept-is = ap numbersBack (kept .controller) ∙ sym (controller-kept-so (k .bench .controller) (ok .controller .numbers))
 
   -- what is told and left, of any call
   console-is-told : (l : ℕ) (m p y : List ℕ) → alone.Honest b (alone.at-console through l m p y) → Console-told (b .console) (console-at k ok) (consoleAlone (b .console) l m p y)
@@ -365,7 +402,7 @@ module _ (k : Link Numbers Row) (ok : Ok k) (kept : Kept k) where
   same-cells l report.Lost m lent = refl
   same-cells l (report.Refused n) m lent = refl
 
-  module _ (l : ℕ) (m p y : List ℕ) (h : alone.Honest b (alone.at-console through l m p y)) where
+  module _ (l : ℕ) (m p y : List ℕ) (h : alone.Honest b (alone.at-console through l m p y)) (kept-J kept-I : List ℕ) (holds : Holding (inC kept-J kept-I b) b) where
     abbrev d : ConsoleAlone
     d = consoleAlone (b .console) l m p y
 
@@ -375,59 +412,66 @@ module _ (k : Link Numbers Row) (ok : Ok k) (kept : Kept k) where
     abbrev f : Console-told (b .console) (console-at k ok) d
     f = console-is-told l m p y h
 
-    console-keeps : consoleKeeps t (recordBytes (last-used.Console (b .console-kept))) ≡ recordBytes (console.consoleLast (d .outcome .console))
-    console-keeps = ap (consoleKeeps t) console-kept-is ∙ f .keeps
+    console-before : Holds 1 kept-J (b .console .numbers)
+    console-before = subst (Holds 1 kept-J) console-kept-is (holds .console)
 
-    console-below : d .outcome .console .numbers .used < 2 ^ 32
-    console-below =
-        let n = next k ok kept (alone.at-console through l m p y) h in
-        subst (λ (x : alone.Boxes). x .console .numbers .used < 2 ^ 32) (sym (n .is)) (console-at (n .link) (n .fine) .used)
+    console-keeps : Holds 1 (consoleKeeps t kept-J) (d .outcome .console .numbers)
+    console-keeps = f .keeps kept-J console-before
 
-    console-goes : (w : Reach) → consoleGoes w t (inC b) ≡ inC (alone.consoleGoes w d b)
+    console-goes : (w : Reach) → Goes (consoleGoes w t (inC kept-J kept-I b)) (alone.consoleGoes w d b)
     console-goes through =
         λ i.
         record {
           console = f .leaves i;
-          console-kept = console-keeps i;
+          console-kept = consoleKeeps t kept-J;
           controller = controllerBytes (b .controller);
-          controller-kept = recordBytes (last-used.Controller (b .controller-kept));
+          controller-kept = kept-I;
           toController = leaves (f .sends i) (d .reply) (b .toController);
           toConsole = b .toConsole;
         }
     console-goes kept-and-cut =
-        let begins = ap (consoleStarts (consoleBytes (b .console))) console-keeps ∙ console-starts (consoleBytes (b .console)) (lastUsedJ (d .outcome .console)) console-below (console-long (b .console) (console-at k ok)) in
+        let begins = console-starts (consoleBytes (b .console)) (consoleKeeps t kept-J) (d .outcome .console .numbers) console-keeps (console-long (b .console) (console-at k ok)) in
         λ i.
         record {
           console = begins i;
-          console-kept = console-keeps i;
+          console-kept = consoleKeeps t kept-J;
           controller = controllerBytes (b .controller);
-          controller-kept = recordBytes (last-used.Controller (b .controller-kept));
+          controller-kept = kept-I;
           toController = b .toController;
           toConsole = b .toConsole;
         }
     console-goes cut =
-        let begins = console-starts (consoleBytes (b .console)) (b .console-kept) (sound-below (k .console-kept) (ok .console-kept)) (console-long (b .console) (console-at k ok)) in
+        let begins = console-starts (consoleBytes (b .console)) kept-J (b .console .numbers) console-before (console-long (b .console) (console-at k ok)) ∙ ap (λ (n : Numbers). consoleBytes (downedConsole n)) (sym console-kept-is) in
         λ i.
         record {
           console = begins i;
-          console-kept = recordBytes (last-used.Console (b .console-kept));
+          console-kept = kept-J;
           controller = controllerBytes (b .controller);
-          controller-kept = recordBytes (last-used.Controller (b .controller-kept));
+          controller-kept = kept-I;
           toController = b .toController;
           toConsole = b .toConsole;
         }
+
+    console-holding : (w : Reach) → Holding (consoleGoes w t (inC kept-J kept-I b)) (alone.consoleGoes w d b)
+    console-holding through = record { console = console-keeps; controller = holds .controller }
+    console-holding kept-and-cut = record { console = console-keeps; controller = holds .controller }
+    console-holding cut = record { console = holds .console; controller = holds .controller }
 
     console-shows : (w : Reach) → consoleShows w l m t ≡ alone.consoleShows w l m d
     console-shows through = ap (λ (r : Report). called l m r []) (f .says)
     console-shows kept-and-cut = refl
     console-shows cut = refl
 
-    console-same : (w : Reach) → Same k (at-console w l m p y)
+    console-same : (w : Reach) → Same k kept-J kept-I (at-console w l m p y)
     console-same w =
-        let s = console-steps (b .console) (console-at k ok) l m p y in
-        (ap (λ (x : ConsoleStep). consoleGoes w x (inC b)) s ∙ console-goes w, ap (consoleShows w l m) s ∙ console-shows w)
+        let s = sym (console-steps (b .console) (console-at k ok) l m p y) in
+        record {
+          goes = subst (λ (x : ConsoleStep). Goes (consoleGoes w x (inC kept-J kept-I b)) (alone.consoleGoes w d b)) s (console-goes w);
+          holding = subst (λ (x : ConsoleStep). Holding (consoleGoes w x (inC kept-J kept-I b)) (alone.consoleGoes w d b)) s (console-holding w);
+          shown = ap (consoleShows w l m) (sym s) ∙ console-shows w;
+        }
 
-  module _ (l : ℕ) (p y lent : List ℕ) (h : alone.Honest b (alone.at-controller through l p y)) where
+  module _ (l : ℕ) (p y lent : List ℕ) (h : alone.Honest b (alone.at-controller through l p y)) (kept-J kept-I : List ℕ) (holds : Holding (inC kept-J kept-I b) b) where
     abbrev e : ControllerAlone
     e = controllerAlone (b .controller) l p y
 
@@ -437,97 +481,124 @@ module _ (k : Link Numbers Row) (ok : Ok k) (kept : Kept k) where
     abbrev g : Controller-told (b .controller) (controller-at k ok) lent e
     g = controller-is-told l p y lent h
 
-    controller-keeps : controllerKeeps u (recordBytes (last-used.Controller (b .controller-kept))) ≡ recordBytes (controller.controllerLast (e .outcome .controller))
-    controller-keeps = ap (controllerKeeps u) controller-kept-is ∙ g .keeps
+    controller-before : Holds 2 kept-I (b .controller .numbers)
+    controller-before = subst (Holds 2 kept-I) controller-kept-is (holds .controller)
 
-    controller-below : e .outcome .controller .numbers .used < 2 ^ 32
-    controller-below =
-        let n = next k ok kept (alone.at-controller through l p y) h in
-        subst (λ (x : alone.Boxes). x .controller .numbers .used < 2 ^ 32) (sym (n .is)) (controller-at (n .link) (n .fine) .used)
+    controller-keeps : Holds 2 (controllerKeeps u kept-I) (e .outcome .controller .numbers)
+    controller-keeps = g .keeps kept-I controller-before
 
-    controller-goes : (w : Reach) → controllerGoes w u (inC b) ≡ inC (alone.controllerGoes w e b)
+    controller-goes : (w : Reach) → Goes (controllerGoes w u (inC kept-J kept-I b)) (alone.controllerGoes w e b)
     controller-goes through =
         λ i.
         record {
           console = consoleBytes (b .console);
-          console-kept = recordBytes (last-used.Console (b .console-kept));
+          console-kept = kept-J;
           controller = g .leaves i;
-          controller-kept = controller-keeps i;
+          controller-kept = controllerKeeps u kept-I;
           toController = b .toController;
           toConsole = leaves (g .sends i) (e .reply) (b .toConsole);
         }
     controller-goes kept-and-cut =
-        let begins = ap (controllerStarts (controllerBytes (b .controller))) controller-keeps ∙ controller-starts (controllerBytes (b .controller)) (lastUsedI (e .outcome .controller)) controller-below (controller-long (b .controller) (controller-at k ok)) in
+        let begins = controller-starts (controllerBytes (b .controller)) (controllerKeeps u kept-I) (e .outcome .controller .numbers) controller-keeps (controller-long (b .controller) (controller-at k ok)) in
         λ i.
         record {
           console = consoleBytes (b .console);
-          console-kept = recordBytes (last-used.Console (b .console-kept));
+          console-kept = kept-J;
           controller = begins i;
-          controller-kept = controller-keeps i;
+          controller-kept = controllerKeeps u kept-I;
           toController = b .toController;
           toConsole = b .toConsole;
         }
     controller-goes cut =
-        let begins = controller-starts (controllerBytes (b .controller)) (b .controller-kept) (sound-below (k .controller-kept) (ok .controller-kept)) (controller-long (b .controller) (controller-at k ok)) in
+        let begins = controller-starts (controllerBytes (b .controller)) kept-I (b .controller .numbers) controller-before (controller-long (b .controller) (controller-at k ok)) ∙ ap (λ (n : Numbers). controllerBytes (downedController n)) (sym controller-kept-is) in
         λ i.
         record {
           console = consoleBytes (b .console);
-          console-kept = recordBytes (last-used.Console (b .console-kept));
+          console-kept = kept-J;
           controller = begins i;
-          controller-kept = recordBytes (last-used.Controller (b .controller-kept));
+          controller-kept = kept-I;
           toController = b .toController;
           toConsole = b .toConsole;
         }
+
+    controller-holding : (w : Reach) → Holding (controllerGoes w u (inC kept-J kept-I b)) (alone.controllerGoes w e b)
+    controller-holding through = record { controller = controller-keeps; console = holds .console }
+    controller-holding kept-and-cut = record { controller = controller-keeps; console = holds .console }
+    controller-holding cut = record { console = holds .console; controller = holds .controller }
 
     controller-shows : (w : Reach) → controllerShows w l u ≡ alone.controllerShows w l e
     controller-shows through = ap (λ (r : Report). called l [] r (u .delivered)) (g .says) ∙ same-cells l (e .outcome .report) (e .outcome .message) lent
     controller-shows kept-and-cut = refl
     controller-shows cut = refl
 
-    controller-same : (w : Reach) → Same k (at-controller w l p y lent)
+    controller-same : (w : Reach) → Same k kept-J kept-I (at-controller w l p y lent)
     controller-same w =
-        let s = controller-steps (b .controller) (controller-at k ok) l p y lent in
-        (ap (λ (x : ControllerStep). controllerGoes w x (inC b)) s ∙ controller-goes w, ap (controllerShows w l) s ∙ controller-shows w)
+        let s = sym (controller-steps (b .controller) (controller-at k ok) l p y lent) in
+        record {
+          goes = subst (λ (x : ControllerStep). Goes (controllerGoes w x (inC kept-J kept-I b)) (alone.controllerGoes w e b)) s (controller-goes w);
+          holding = subst (λ (x : ControllerStep). Holding (controllerGoes w x (inC kept-J kept-I b)) (alone.controllerGoes w e b)) s (controller-holding w);
+          shown = ap (controllerShows w l) (sym s) ∙ controller-shows w;
+        }
 
-  same : (x : Event) → Honest (inC b) x → Same k x × alone.Honest b (plain x)
-  same (at-console w l m p y) h = (console-same l m p y h w, h)
-  same (at-controller w l p y lent) h = (controller-same l p y lent h w, h)
+  same : (kept-J kept-I : List ℕ) → Holding (inC kept-J kept-I b) b → (x : Event) → Honest (inC kept-J kept-I b) x → Same k kept-J kept-I x × alone.Honest b (plain x)
+  same kept-J kept-I holds (at-console w l m p y) h = (console-same l m p y h kept-J kept-I holds w, h)
+  same kept-J kept-I holds (at-controller w l p y lent) h = (controller-same l p y lent h kept-J kept-I holds w, h)
 
 -- ## All of them
 
-abbrev All-same : Link Numbers Row → List Event → Type 0
-All-same k es = alone.AllHonest (boxesOf k) (map plain es) × (allShown (inC (boxesOf k)) es ≡ alone.allShown (boxesOf k) (map plain es))
+abbrev All-same : Link rules.Numbers Row → List ℕ → List ℕ → List Event → Type 0
+All-same k kept-J kept-I es = alone.AllHonest (boxesOf k) (map plain es) × (allShown (inC kept-J kept-I (boxesOf k)) es ≡ alone.allShown (boxesOf k) (map plain es))
 
-all-same : (k : Link Numbers Row) → Ok k → Kept k → (es : List Event) → AllHonest (inC (boxesOf k)) es → All-same k es
+all-same : (k : Link rules.Numbers Row) → Ok k → Kept k → (kept-J kept-I : List ℕ) → Holding (inC kept-J kept-I (boxesOf k)) (boxesOf k) → (es : List Event) → AllHonest (inC kept-J kept-I (boxesOf k)) es → All-same k kept-J kept-I es
 unfolding allShown alone.allShown
-all-same k ok kept [] h = (tt, refl)
-all-same k ok kept (x ∷ es) h =
-    let s = same k ok kept x (h .0) in
+all-same k ok kept kept-J kept-I holds [] h = (tt, refl)
+all-same k ok kept kept-J kept-I holds (x ∷ es) h =
+    let s = same k ok kept kept-J kept-I holds x (h .0) in
     let n = next k ok kept (plain x) (s .1) in
-    let there : after (inC (boxesOf k)) x ≡ inC (boxesOf (n .link)) = s .0 .0 ∙ ap inC (n .is) in
-    let more = all-same (n .link) (n .fine) (n .kept) es (subst (λ (z : Boxes). AllHonest z es) there (h .1)) in
+    let z = after (inC kept-J kept-I (boxesOf k)) x in
+    let there : z ≡ inC (z .console-kept) (z .controller-kept) (boxesOf (n .link)) = s .0 .goes ∙ ap (inC (z .console-kept) (z .controller-kept)) (n .is) in
+    let holding : Holding (inC (z .console-kept) (z .controller-kept) (boxesOf (n .link))) (boxesOf (n .link)) = (let q = subst (Holding z) (n .is) (s .0 .holding) in record { console = q .console; controller = q .controller }) in
+    let more = all-same (n .link) (n .fine) (n .kept) (z .console-kept) (z .controller-kept) holding es (subst (λ (y : Boxes). AllHonest y es) there (h .1)) in
     let back = sym (n .is) in (
-      (s .1, subst (λ (z : alone.Boxes). alone.AllHonest z (map plain es)) back (more .0)),
-      ap₂ (λ y z. y ∷ z) (s .0 .1)
-          (ap (λ (z : Boxes). allShown z es) there ∙ more .1 ∙ ap (λ (z : alone.Boxes). alone.allShown z (map plain es)) back),
+      (s .1, subst (λ (y : alone.Boxes). alone.AllHonest y (map plain es)) back (more .0)),
+      ap₂ (λ y w. y ∷ w) (s .0 .shown)
+          (ap (λ (y : Boxes). allShown y es) there ∙ more .1 ∙ ap (λ (y : alone.Boxes). alone.allShown y (map plain es)) back),
     )
 
 -- ## The theorem
 
-module _ (j : J) (i : I) (p : j .0 < 2 ^ 32) (q : i .0 < 2 ^ 32) (es : List Event) (honest : AllHonest (start j i) es) where
-  begun : All-same (radio.start (j .0) (i .0)) es
+-- a record's numbers are sound
+stored : (end : ℕ) (r : NumberRecord) → RecordOf end r → alone.Stored (numbersOf r)
+stored end r p =
+    let b = blockOf (renewed r) in
+    let g = renewed-block r (p .good) in
+    record {
+      all-used = refl;
+      sound =
+          sound-so (numbersMeans (numbersOf r))
+          (record {
+            below = le-refl (numberOf (renewed r));
+            most = subst (λ (n : ℕ). n ≤ largest) (sym (renewed-number r)) (omega (arith, p .fits));
+            least-block = leb-true 1 b (and-left (leb 1 b) (leb b 1024) g);
+            most-block = leb-true b 1024 (and-right (leb 1 b) (leb b 1024) g);
+          });
+    }
+
+module _ (j i : NumberRecord) (p : RecordOf 1 j) (q : RecordOf 2 i) (es : List Event) (honest : AllHonest (start j i) es) where
+  begun : All-same (radio.start (numbersMeans (numbersOf j)) (numbersMeans (numbersOf i))) (recordBytes j) (recordBytes i) es
   unfolding bench.fresh
   begun =
-      all-same (radio.start (j .0) (i .0))
-      (start-ok numbering isMessage (j .0) (i .0) (sound-is (j .0) p) (sound-is (i .0) q))
-      (record { console = refl; controller = refl }) es honest
+      all-same (radio.start (numbersMeans (numbersOf j)) (numbersMeans (numbersOf i)))
+      (from-ok (numbersOf j) (numbersOf i) (stored 1 j p) (stored 2 i q)) (from-kept (numbersOf j) (numbersOf i) (stored 1 j p) (stored 2 i q))
+      (recordBytes j) (recordBytes i)
+      (record { console = record-holds 1 j (p .own) (p .fits) (p .good); controller = record-holds 2 i (q .own) (q .fits) (q .good) }) es honest
 
   pub boxes-for-c-right : BoxesForCRight j i es
   unfolding bench.fresh
   boxes-for-c-right =
-      let r = boxes-right j i p q (map plain es) (begun .0) in
+      let r = boxes-right (numbersOf j) (numbersOf i) (stored 1 j p) (stored 2 i q) (map plain es) (begun .0) in
       record { happenings = r .happenings; right = r .right; own = r .own ∙ ap (λ (l : List (Option (log.Event Row))). written l []) (sym (begun .1)) }
 
   -- in plain words
-  pub boxes-for-c-plain : Plain (radio-log numbering isMessage (j .0) (i .0) (boxes-for-c-right .happenings))
-  boxes-for-c-plain = right-plain (radio-log numbering isMessage (j .0) (i .0) (boxes-for-c-right .happenings)) (boxes-for-c-right .right)
+  pub boxes-for-c-plain : Plain (radio-log numbering isMessage (numbersMeans (numbersOf j)) (numbersMeans (numbersOf i)) (boxes-for-c-right .happenings))
+  boxes-for-c-plain = right-plain (radio-log numbering isMessage (numbersMeans (numbersOf j)) (numbersMeans (numbersOf i)) (boxes-for-c-right .happenings)) (boxes-for-c-right .right)

@@ -7,6 +7,7 @@ use denote.Ref.{now}
 use denote.Triple.Clauses.{AtExit}
 use Rattle.rules.specs.Bench.{fresh}
 use Rattle.rules.specs.Demand3.{written}
+use Rattle.rules.specs.Supply.{fresh-numbers}
 use Rattle.rules.specs.Plain.{Plain}
 use Rattle.rules.proofs.Plain.{right-plain}
 use Rattle.bench.specs.Listed.{actionsIn, ListRight}
@@ -20,5 +21,5 @@ module _ (κs : Lfts 2) (a : Dens κs run-kinds.ps) (x : ℕ) (s : AtExit (ended
   list-right = ran-right (now (a .0)) (now (a .1 .0)) meets
 
   -- in plain words
-  pub list-plain : Plain (written (rowsOf [] (fresh 0 0) (actionsIn (now (a .0)) (now (a .1 .0)))) [])
+  pub list-plain : Plain (written (rowsOf [] (fresh (fresh-numbers 0) (fresh-numbers 0)) (actionsIn (now (a .0)) (now (a .1 .0)))) [])
   list-plain = right-plain _ (list-right .orders .right)

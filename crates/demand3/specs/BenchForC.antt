@@ -8,6 +8,7 @@ use lib.Dec.{eqb}
 use Rattle.ground.specs.Choice.{if_then_else_}
 use Rattle.wire.specs.declared.I.{I}
 use Rattle.wire.specs.declared.J.{J}
+use Rattle.rules.specs.Supply.{fresh-numbers}
 use Rattle.rules.specs.Bench.{fresh}
 use Rattle.rules.specs.Log.{Right}
 use Rattle.rules.specs.Demand3.{written, unnumbered}
@@ -59,5 +60,5 @@ actionsOf l = map (λ (c : Call). c .action) l
 -- the log of these actions, with the puts numbered, is right, and without the numbers its rows are what the calls show
 pub record CallsRight (j : J) (i : I) (state out back : List ℕ) (l : List Call) : Type 0 where
   pub begun : freshPut j i state out back .told ≡ 0
-  pub right : Right (written (rowsOf [] (fresh (j .0) (i .0)) (actionsOf l)) [])
-  pub own : map (Option·map unnumbered) (rowsOf [] (fresh (j .0) (i .0)) (actionsOf l)) ≡ callsShow l (freshCalls j i state out back l)
+  pub right : Right (written (rowsOf [] (fresh (fresh-numbers (j .0)) (fresh-numbers (i .0))) (actionsOf l)) [])
+  pub own : map (Option·map unnumbered) (rowsOf [] (fresh (fresh-numbers (j .0)) (fresh-numbers (i .0))) (actionsOf l)) ≡ callsShow l (freshCalls j i state out back l)

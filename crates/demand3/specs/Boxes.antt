@@ -5,10 +5,8 @@ use mathlib.Core.Path.{_≡_}
 use mathlib.Core.Bool.{Bool, true, false, not}
 use mathlib.Core.Option.{Option, some}
 use mathlib.Core.List.{List, [], _∷_, _++_, map}
-use Rattle.ground.specs.Cell.{isMessage}
+use Rattle.ground.specs.Cell.{isMessage, spaces}
 use Rattle.wire.specs.Packet.{packetRead}
-use Rattle.wire.specs.declared.I.{I}
-use Rattle.wire.specs.declared.J.{J}
 use Rattle.rules.specs.Supply.{numbering}
 use Rattle.rules.specs.Letters.{letter, S-take, R-take}
 use Rattle.rules.specs.Ends.{absent}
@@ -17,8 +15,12 @@ use Rattle.rules.specs.Log as log
 use Rattle.rules.specs.Log.{Right}
 use Rattle.rules.specs.Demand3.{written, unnumbered}
 use Rattle.rules.specs.Radio.{Happening, radio-log}
-use Rattle.ends_console.specs.Fields.{lastUsedJ, freshConsole, downedConsole}
-use Rattle.ends_controller.specs.Fields.{lastUsedI, freshController, downedController}
+use Rattle.numbers.specs.Numbers.{numbersMeans, numbersKept}
+use Rattle.numbers.specs.declared.Numbers.{Numbers}
+use Rattle.ends_console.specs.Fields.{consoleWith, consoleKept, downedConsole}
+use Rattle.ends_console.specs.declared.Mode.the-variants as console-mode
+use Rattle.ends_controller.specs.Fields.{controllerWith, controllerKept, downedController}
+use Rattle.ends_controller.specs.declared.Mode.the-variants as controller-mode
 use Rattle.ends.specs.AsRules.{forConsole, forController}
 use Rattle.ends.specs.Packets.{readForConsole, readForController}
 use Rattle.ends.specs.declared.Report.{Report}
@@ -30,12 +32,17 @@ use Rattle.bench.specs.Orders.{shownBy}
 
 -- ## The two boxes
 
--- each end, its number as the box has kept it, and the bytes of every packet that ever left for the other
+-- numbers as a number record holds them: all that is reserved is used
+pub record Stored (n : Numbers) : Type 0 where
+  pub all-used : n ≡ numbersKept (n .reserved) (n .block)
+  pub sound : numbering .sound (numbersMeans n) ≡ true
+
+-- each end, its numbers as its number record holds them, which the box has kept, and the bytes of every packet that ever left for the other
 pub record Boxes : Type 0 where
   pub console : Console
-  pub console-kept : J
+  pub console-kept : Numbers
   pub controller : Controller
-  pub controller-kept : I
+  pub controller-kept : Numbers
   pub toController : List (List ℕ)
   pub toConsole : List (List ℕ)
 
@@ -58,7 +65,7 @@ abbrev pub consoleGoes : Reach → ConsoleAlone → Boxes → Boxes
 consoleGoes through d b =
     record {
       console = d .outcome .console;
-      console-kept = lastUsedJ (d .outcome .console);
+      console-kept = consoleKept (d .outcome .console);
       controller = b .controller;
       controller-kept = b .controller-kept;
       toController = leaves (d .outcome .sent) (d .reply) (b .toController);
@@ -66,8 +73,8 @@ consoleGoes through d b =
     }
 consoleGoes kept-and-cut d b =
     record {
-      console = downedConsole (lastUsedJ (d .outcome .console));
-      console-kept = lastUsedJ (d .outcome .console);
+      console = downedConsole (consoleKept (d .outcome .console));
+      console-kept = consoleKept (d .outcome .console);
       controller = b .controller;
       controller-kept = b .controller-kept;
       toController = b .toController;
@@ -89,7 +96,7 @@ controllerGoes through d b =
       console = b .console;
       console-kept = b .console-kept;
       controller = d .outcome .controller;
-      controller-kept = lastUsedI (d .outcome .controller);
+      controller-kept = controllerKept (d .outcome .controller);
       toController = b .toController;
       toConsole = leaves (d .outcome .sent) (d .reply) (b .toConsole);
     }
@@ -97,8 +104,8 @@ controllerGoes kept-and-cut d b =
     record {
       console = b .console;
       console-kept = b .console-kept;
-      controller = downedController (lastUsedI (d .outcome .controller));
-      controller-kept = lastUsedI (d .outcome .controller);
+      controller = downedController (controllerKept (d .outcome .controller));
+      controller-kept = controllerKept (d .outcome .controller);
       toController = b .toController;
       toConsole = b .toConsole;
     }
@@ -116,13 +123,13 @@ abbrev pub after : Boxes → Event → Boxes
 after b (at-console r l m packet reply) = consoleGoes r (consoleAlone (b .console) l m packet reply) b
 after b (at-controller r l packet reply) = controllerGoes r (controllerAlone (b .controller) l packet reply) b
 
--- up and idle with any two last used; a box that starts after power loss has had a cut before
-abbrev pub start : J → I → Boxes
+-- up and idle with the numbers of any two records; a box that starts after power loss has had a cut before
+abbrev pub start : Numbers → Numbers → Boxes
 start j i =
     record {
-      console = freshConsole j;
+      console = consoleWith j console-mode.Idle true spaces;
       console-kept = j;
-      controller = freshController i;
+      controller = controllerWith i controller-mode.Idle true;
       controller-kept = i;
       toController = [];
       toConsole = [];
@@ -171,7 +178,7 @@ AllHonest b (e ∷ es) = Honest b e × AllHonest (after b e) es
 
 -- ## Demand 3: what the boxes show, with the orders numbered, is a right log of what may happen to the rules' ends over a radio
 
-pub record BoxesRight (j : J) (i : I) (es : List Event) : Type 0 where
+pub record BoxesRight (j i : Numbers) (es : List Event) : Type 0 where
   pub happenings : List (Happening (List ℕ))
-  pub right : Right (radio-log numbering isMessage (j .0) (i .0) happenings)
-  pub own : map unnumbered (radio-log numbering isMessage (j .0) (i .0) happenings) ≡ written (allShown (start j i) es) []
+  pub right : Right (radio-log numbering isMessage (numbersMeans j) (numbersMeans i) happenings)
+  pub own : map unnumbered (radio-log numbering isMessage (numbersMeans j) (numbersMeans i) happenings) ≡ written (allShown (start j i) es) []

@@ -1,18 +1,17 @@
 -- Demand 3 of two boxes over any radio, written in C over the header's entries: by the byte that a step returns, the state and the number record in
 -- bytes. `consoleStep`, `controllerStep`, `stateRecordPut` and `started` are the entries' own promises, so that these calls are the entries'
 -- calls. Assumes nothing.
-use Prim.Native.Nat.{ℕ, _+_, _*_, _/_, _%_}
+use Prim.Native.Nat.{ℕ, _+_, _*_, _/_, _%_, _<_, _^_}
 use mathlib.Core.Path.{_≡_}
 use mathlib.Core.Bool.{Bool, true}
 use mathlib.Core.Option.{Option, some}
 use mathlib.Core.List.{List, [], _∷_, map}
+use lib.ListN.{replicate}
 use lib.Dec.{eqb}
-use Rattle.ground.specs.Cell.{isMessage}
+use Rattle.ground.specs.Cell.{isMessage, spaces}
 use Rattle.ground.specs.Choice.{if_then_else_}
-use Rattle.wire.specs.Record.{recordBytes}
-use Rattle.wire.specs.declared.I.{I}
-use Rattle.wire.specs.declared.J.{J}
-use Rattle.wire.specs.declared.LastUsed.the-variants as last-used
+use Rattle.wire.specs.Record.{endOf, numberOf, blockOf, isGood, recordBytes, renewed}
+use Rattle.wire.specs.declared.NumberRecord.{NumberRecord}
 use Rattle.rules.specs.Supply.{numbering}
 use Rattle.rules.specs.Letters.{letter, S-take, R-take}
 use Rattle.rules.specs.Lists.{In}
@@ -20,20 +19,25 @@ use Rattle.rules.specs.Log as log
 use Rattle.rules.specs.Log.{Right}
 use Rattle.rules.specs.Demand3.{written, unnumbered}
 use Rattle.rules.specs.Radio.{Happening, radio-log}
-use Rattle.ends_console.specs.Fields.{consoleOk, freshConsole}
-use Rattle.ends_controller.specs.Fields.{controllerOk, freshController}
+use Rattle.numbers.specs.Numbers.{numbersMeans, numbersKept}
+use Rattle.numbers.specs.declared.Numbers.{Numbers}
+use Rattle.ends_console.specs.Fields.{consoleOk, consoleWith}
+use Rattle.ends_console.specs.declared.Mode.the-variants as console-mode
+use Rattle.ends_controller.specs.Fields.{controllerOk, controllerWith}
+use Rattle.ends_controller.specs.declared.Mode.the-variants as controller-mode
 use Rattle.ends.specs.declared.Report.{Report}
 use Rattle.boundary.specs.State.{stateRecordPut, started}
 use Rattle.boundary.specs.Console as console
-use Rattle.boundary.specs.Console.{ConsoleStep, consoleAt, consoleLast, consoleBytes, consoleStep}
+use Rattle.boundary.specs.Console.{ConsoleStep, consoleAt, consoleRecord, consoleBytes, consoleStep}
 use Rattle.boundary.specs.Controller as controller
-use Rattle.boundary.specs.Controller.{ControllerStep, controllerAt, controllerLast, controllerBytes, controllerStep}
+use Rattle.boundary.specs.Controller.{ControllerStep, controllerAt, controllerRecord, controllerBytes, controllerStep}
 use Rattle.demand3.specs.BenchForC.{byteSays}
 use Rattle.demand3.specs.Boxes.{Reach, through, kept-and-cut, cut, leaves, called, isForConsole, isForController}
 
 -- ## The two boxes
 
--- each end's state, 30 and 17 bytes, its number record as it is kept, 12 bytes, and every packet that ever left for the other
+-- each end's state, 36 and 23 bytes, its number record as it is kept, 16 bytes, or 12 until the first is kept, and every packet that ever left for
+-- the other
 pub record Boxes : Type 0 where
   pub console : List ℕ
   pub console-kept : List ℕ
@@ -60,24 +64,28 @@ reportTold t = byteSays (t % 32 + 64 * (t / 64 % 2))
 
 -- ## The rule that a box has to keep: the record first, where the byte says so; then the report; then the reply
 
+-- a buffer of 16 bytes
+abbrev pub buffer : List ℕ
+buffer = replicate 16 0
+
 unfoldable pub consoleKeeps : ConsoleStep → List ℕ → List ℕ
 consoleKeeps t kept =
     if keepTold (t .told)
-    then stateRecordPut (consoleOk (consoleAt (t .state))) (consoleLast (consoleAt (t .state))) kept
+    then stateRecordPut (consoleOk (consoleAt (t .state))) (consoleRecord (consoleAt (t .state))) buffer
     else kept
 
 unfoldable pub controllerKeeps : ControllerStep → List ℕ → List ℕ
 controllerKeeps t kept =
     if keepTold (t .told)
-    then stateRecordPut (controllerOk (controllerAt (t .state))) (controllerLast (controllerAt (t .state))) kept
+    then stateRecordPut (controllerOk (controllerAt (t .state))) (controllerRecord (controllerAt (t .state))) buffer
     else kept
 
 -- after power loss: down, from the kept record
 abbrev pub consoleStarts : List ℕ → List ℕ → List ℕ
-consoleStarts s kept = started 30 s (console.lastAt kept) (console.downedBytes kept)
+consoleStarts s kept = started 36 s (console.startAt kept) (console.downedBytes kept)
 
 abbrev pub controllerStarts : List ℕ → List ℕ → List ℕ
-controllerStarts s kept = started 17 s (controller.lastAt kept) (controller.downedBytes kept)
+controllerStarts s kept = started 23 s (controller.startAt kept) (controller.downedBytes kept)
 
 abbrev pub consoleGoes : Reach → ConsoleStep → Boxes → Boxes
 consoleGoes through t b =
@@ -141,14 +149,24 @@ abbrev pub after : Boxes → Event → Boxes
 after b (at-console r l m packet reply) = consoleGoes r (consoleStep (b .console) l m packet reply) b
 after b (at-controller r l packet reply lent) = controllerGoes r (controllerStep (b .controller) l packet reply lent) b
 
--- what `nooseless_console_fresh` and `nooseless_controller_fresh` write to a state, and `.._record` to a record
-abbrev pub start : J → I → Boxes
+-- a number record of this end, of either version, as one that is read is
+pub record RecordOf (end : ℕ) (r : NumberRecord) : Type 0 where
+  pub own : endOf r ≡ end
+  pub fits : numberOf r < 2 ^ 32
+  pub good : isGood r ≡ true
+
+-- the numbers of a record of either version, as `.._downed` takes them
+abbrev pub numbersOf : NumberRecord → Numbers
+numbersOf r = numbersKept (numberOf (renewed r)) (blockOf (renewed r))
+
+-- up and idle with the numbers of any two records, which are kept; a box that starts after power loss has had a cut before
+abbrev pub start : NumberRecord → NumberRecord → Boxes
 start j i =
     record {
-      console = consoleBytes (freshConsole j);
-      console-kept = recordBytes (last-used.Console j);
-      controller = controllerBytes (freshController i);
-      controller-kept = recordBytes (last-used.Controller i);
+      console = consoleBytes (consoleWith (numbersOf j) console-mode.Idle true spaces);
+      console-kept = recordBytes j;
+      controller = controllerBytes (controllerWith (numbersOf i) controller-mode.Idle true);
+      controller-kept = recordBytes i;
       toController = [];
       toConsole = [];
     }
@@ -185,7 +203,7 @@ AllHonest b (e ∷ es) = Honest b e × AllHonest (after b e) es
 
 -- ## Demand 3
 
-pub record BoxesForCRight (j : J) (i : I) (es : List Event) : Type 0 where
+pub record BoxesForCRight (j i : NumberRecord) (es : List Event) : Type 0 where
   pub happenings : List (Happening (List ℕ))
-  pub right : Right (radio-log numbering isMessage (j .0) (i .0) happenings)
-  pub own : map unnumbered (radio-log numbering isMessage (j .0) (i .0) happenings) ≡ written (allShown (start j i) es) []
+  pub right : Right (radio-log numbering isMessage (numbersMeans (numbersOf j)) (numbersMeans (numbersOf i)) happenings)
+  pub own : map unnumbered (radio-log numbering isMessage (numbersMeans (numbersOf j)) (numbersMeans (numbersOf i)) happenings) ≡ written (allShown (start j i) es) []

@@ -62,8 +62,8 @@ fresh-console-starts-down κs a x s e w p = false≢true (sym w ∙ ap (λ (c : 
 pub fresh-console-counts-from-0 : RulesOut fresh-console-kinds.ps fresh-console-kinds.r fresh-console.Post (λ κs a. a .0 ≡ record { 0 = 1 }) (λ κs a x s. x .numbers .used ≡ 0)
 fresh-console-counts-from-0 κs a x s e w p = unequal (sym w ∙ ap (λ (c : Console). c .numbers .used) (p ∙ ap freshConsole e)) refl
 
-pub downed-console-is-up : RulesOut downed-console-kinds.ps downed-console-kinds.r downed-console.Post (λ κs a. a .0 ≡ record { 0 = 1 }) (λ κs a x s. x .up ≡ true)
+pub downed-console-is-up : RulesOut downed-console-kinds.ps downed-console-kinds.r downed-console.Post (λ κs a. a .0 ≡ numbersFresh 1) (λ κs a x s. x .up ≡ true)
 downed-console-is-up κs a x s e w p = true≢false (sym w ∙ ap (λ (c : Console). c .up) (p ∙ ap downedConsole e))
 
-pub downed-console-counts-from-0 : RulesOut downed-console-kinds.ps downed-console-kinds.r downed-console.Post (λ κs a. a .0 ≡ record { 0 = 1 }) (λ κs a x s. x .numbers .used ≡ 0)
+pub downed-console-counts-from-0 : RulesOut downed-console-kinds.ps downed-console-kinds.r downed-console.Post (λ κs a. a .0 ≡ numbersFresh 1) (λ κs a x s. x .numbers .used ≡ 0)
 downed-console-counts-from-0 κs a x s e w p = unequal (sym w ∙ ap (λ (c : Console). c .numbers .used) (p ∙ ap downedConsole e)) refl

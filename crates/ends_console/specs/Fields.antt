@@ -8,7 +8,7 @@ use Rattle.ground.specs.Every.{filled}
 use Rattle.ground.specs.Choice.{if_then_else_}
 use Rattle.wire.specs.declared.J.{J}
 use Rattle.rules.specs.Supply.{numbering}
-use Rattle.numbers.specs.Numbers.{numbersMeans, numbersFresh}
+use Rattle.numbers.specs.Numbers.{numbersMeans, numbersKept, numbersFresh}
 use Rattle.numbers.specs.declared.Numbers.{Numbers}
 use Rattle.ends_console.specs.declared.Mode.{Mode}
 use Rattle.ends_console.specs.declared.Mode.the-variants.{NeedI, Send}
@@ -17,7 +17,7 @@ use Rattle.ends_console.specs.declared.fields.Console.{Console}
 use Rattle.ends_console.specs.declared.fields.ConsoleRead.{ConsoleRead}
 use Rattle.ends_console.specs.declared.fields.ConsoleRead.the-variants as console-read
 
--- its numbers are sound, as any that fit in 32 bits are. With a message held exactly one of j and last is not 0; with none both are 0 and the message
+-- its numbers are sound: last used at most reserved, a block of 1 to 1,024. With a message held exactly one of j and last is not 0; with none both are 0 and the message
 -- is 16 spaces. j is one of its own numbers
 unfoldable pub consoleOk : Console → Bool
 consoleOk c =
@@ -51,12 +51,12 @@ consoleWith numbers (Send last) up m = record { numbers = numbers; held = true; 
 abbrev pub consoleFields : End → List ℕ → Console
 consoleFields e m = consoleWith (e .numbers) (e .mode) (e .up) m
 
--- its last used, which a box keeps through a power loss
-abbrev pub lastUsedJ : Console → J
-lastUsedJ c = record { 0 = c .numbers .used }
+-- its numbers as its number record holds them, which a box keeps through a power loss
+abbrev pub consoleKept : Console → Numbers
+consoleKept c = numbersKept (c .numbers .reserved) (c .numbers .block)
 
 abbrev pub freshConsole : J → Console
 freshConsole used = consoleWith (numbersFresh (used .0)) Mode.Idle true spaces
 
-abbrev pub downedConsole : J → Console
-downedConsole used = consoleWith (numbersFresh (used .0)) Mode.Idle false spaces
+abbrev pub downedConsole : Numbers → Console
+downedConsole kept = consoleWith kept Mode.Idle false spaces

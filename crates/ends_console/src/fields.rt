@@ -144,12 +144,12 @@ pub fn fresh_console(used: J) -> Console
     }
 }
 
-// After power loss: down, with the last used of its number record; V brings it back.
-pub fn downed_console(used: J) -> Console
-    ensures { λ r. ⌜ r ≡ downedConsole used ⌝ }
+// After power loss: down, with the numbers of its number record; V brings it back.
+pub fn downed_console(kept: Numbers) -> Console
+    ensures { λ r. ⌜ r ≡ downedConsole kept ⌝ }
 {
     Console {
-        numbers: numbers::fresh(used.0),
+        numbers: kept,
         held: false,
         message: [0x20; 16],
         j: J(0),

@@ -51,8 +51,8 @@ fresh-controller-starts-down κs a x s e w p = false≢true (sym w ∙ ap (λ (c
 pub fresh-controller-counts-from-0 : RulesOut fresh-controller-kinds.ps fresh-controller-kinds.r fresh-controller.Post (λ κs a. a .0 ≡ record { 0 = 1 }) (λ κs a x s. x .numbers .used ≡ 0)
 fresh-controller-counts-from-0 κs a x s e w p = unequal (sym w ∙ ap (λ (c : Controller). c .numbers .used) (p ∙ ap freshController e)) refl
 
-pub downed-controller-is-up : RulesOut downed-controller-kinds.ps downed-controller-kinds.r downed-controller.Post (λ κs a. a .0 ≡ record { 0 = 1 }) (λ κs a x s. x .up ≡ true)
+pub downed-controller-is-up : RulesOut downed-controller-kinds.ps downed-controller-kinds.r downed-controller.Post (λ κs a. a .0 ≡ numbersFresh 1) (λ κs a x s. x .up ≡ true)
 downed-controller-is-up κs a x s e w p = true≢false (sym w ∙ ap (λ (c : Controller). c .up) (p ∙ ap downedController e))
 
-pub downed-controller-counts-from-0 : RulesOut downed-controller-kinds.ps downed-controller-kinds.r downed-controller.Post (λ κs a. a .0 ≡ record { 0 = 1 }) (λ κs a x s. x .numbers .used ≡ 0)
+pub downed-controller-counts-from-0 : RulesOut downed-controller-kinds.ps downed-controller-kinds.r downed-controller.Post (λ κs a. a .0 ≡ numbersFresh 1) (λ κs a x s. x .numbers .used ≡ 0)
 downed-controller-counts-from-0 κs a x s e w p = unequal (sym w ∙ ap (λ (c : Controller). c .numbers .used) (p ∙ ap downedController e)) refl

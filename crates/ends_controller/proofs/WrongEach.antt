@@ -4,7 +4,7 @@ use mathlib.Core.Bool.{Bool, true, false, true≢false, false≢true}
 use mathlib.Core.List.{[], _∷_}
 use Rattle.ground.specs.First.{first, refusal}
 use Rattle.ground.proofs.Promise.{RulesOut, unequal, clash}
-use Rattle.rules.specs.Supply.{numbering, next-counted}
+use Rattle.rules.specs.Supply.{numbering, numbers-rules}
 use Rattle.rules.specs.Ends as rules
 use Rattle.numbers.specs.Numbers.{numbersMeans, numbersFresh}
 use Rattle.ends_controller.specs.AsRules as controller
@@ -46,43 +46,43 @@ abbrev acking : controller-mode.Mode
 acking = Ack (record { 0 = 3 })
 
 pub offer-in-ack : RulesOut offer-sent-kinds.ps offer-sent-kinds.r offer-sent.Post (λ κs a. a .0 ≡ acking) (λ κs a x s. x ≡ for-console.Packet (down.Offer (record { 0 = 1 }) (record { 0 = 3 })))
-unfolding rules.ends next-counted
+unfolding rules.ends numbers-rules
 offer-in-ack κs a x s e w p = let q : for-console.Packet (down.Offer (record { 0 = 1 }) (record { 0 = 3 })) ≡ for-console.Nothing = sym w ∙ p ∙ ap (λ (z : controller-mode.Mode). forConsoleBack (rules.offer-sent (controller.mode z))) e in clash cc
 
 pub no-offer : RulesOut offer-sent-kinds.ps offer-sent-kinds.r offer-sent.Post (λ κs a. a .0 ≡ accepting) (λ κs a x s. x ≡ for-console.Nothing)
-unfolding rules.ends next-counted
+unfolding rules.ends numbers-rules
 no-offer κs a x s e w p = let q : for-console.Nothing ≡ for-console.Packet (down.Offer (record { 0 = 1 }) (record { 0 = 3 })) = sym w ∙ p ∙ ap (λ (z : controller-mode.Mode). forConsoleBack (rules.offer-sent (controller.mode z))) e in clash cc
 
 pub ok-in-accept : RulesOut ok-sent-kinds.ps ok-sent-kinds.r ok-sent.Post (λ κs a. a .0 ≡ accepting) (λ κs a x s. x ≡ for-console.Packet (down.Ok (record { 0 = 3 })))
-unfolding rules.ends next-counted
+unfolding rules.ends numbers-rules
 ok-in-accept κs a x s e w p = let q : for-console.Packet (down.Ok (record { 0 = 3 })) ≡ for-console.Nothing = sym w ∙ p ∙ ap (λ (z : controller-mode.Mode). forConsoleBack (rules.ok-sent (controller.mode z))) e in clash cc
 
 pub no-ok : RulesOut ok-sent-kinds.ps ok-sent-kinds.r ok-sent.Post (λ κs a. a .0 ≡ acking) (λ κs a x s. x ≡ for-console.Nothing)
-unfolding rules.ends next-counted
+unfolding rules.ends numbers-rules
 no-ok κs a x s e w p = let q : for-console.Nothing ≡ for-console.Packet (down.Ok (record { 0 = 3 })) = sym w ∙ p ∙ ap (λ (z : controller-mode.Mode). forConsoleBack (rules.ok-sent (controller.mode z))) e in clash cc
 
 pub lost-to-a-repeat : RulesOut takes-what-came-kinds.ps takes-what-came-kinds.r takes-what-came.Post (λ κs a. (a .0 ≡ controller-in acking true) × (a .1 .0 ≡ for-controller.Packet (up.Data (record { 0 = 3 })))) (λ κs a x s. x .sent ≡ for-console.Packet (down.Lost (record { 0 = 3 })))
-unfolding rules.ends next-counted
+unfolding rules.ends numbers-rules
 lost-to-a-repeat κs a x s e w p = let q : for-console.Packet (down.Lost (record { 0 = 3 })) ≡ for-console.Nothing = sym w ∙ ap (λ (d : controller-acted.Acted). d .sent) (p ∙ (λ i. controller.acted (rules.controller-acts numbering (controller.end (e .0 i)) (rules.ControllerAct.take (forController (e .1 i)))))) in clash cc
 
 pub delivers-twice : RulesOut takes-what-came-kinds.ps takes-what-came-kinds.r takes-what-came.Post (λ κs a. (a .0 ≡ controller-in acking true) × (a .1 .0 ≡ for-controller.Packet (up.Data (record { 0 = 3 })))) (λ κs a x s. x .report ≡ report.Delivered)
-unfolding rules.ends next-counted
+unfolding rules.ends numbers-rules
 delivers-twice κs a x s e w p = let q : report.Delivered ≡ report.Nothing = sym w ∙ ap (λ (d : controller-acted.Acted). d .report) (p ∙ (λ i. controller.acted (rules.controller-acts numbering (controller.end (e .0 i)) (rules.ControllerAct.take (forController (e .1 i)))))) in clash cc
 
 pub going-down-clears : RulesOut goes-down-kinds.ps goes-down-kinds.r goes-down.Post (λ κs a. a .0 ≡ controller-in acking true) (λ κs a x s. x .after .mode ≡ controller-mode.Mode.Idle)
-unfolding rules.ends next-counted
+unfolding rules.ends numbers-rules
 going-down-clears κs a x s e w p = let q : controller-mode.Mode.Idle ≡ acking = sym w ∙ ap (λ (d : controller-acted.Acted). d .after .mode) (p ∙ ap (λ (z : controller-end.End). controller.acted (rules.controller-acts numbering (controller.end z) rules.ControllerAct.go-down)) e) in clash cc
 
 pub going-down-stays-up : RulesOut goes-down-kinds.ps goes-down-kinds.r goes-down.Post (λ κs a. a .0 ≡ controller-in acking true) (λ κs a x s. x .after .up ≡ true)
-unfolding rules.ends next-counted
+unfolding rules.ends numbers-rules
 going-down-stays-up κs a x s e w p = true≢false (sym w ∙ ap (λ (d : controller-acted.Acted). d .after .up) (p ∙ ap (λ (z : controller-end.End). controller.acted (rules.controller-acts numbering (controller.end z) rules.ControllerAct.go-down)) e))
 
 pub i-kept-through-Y : RulesOut comes-back-kinds.ps comes-back-kinds.r comes-back.Post (λ κs a. a .0 ≡ controller-in accepting false) (λ κs a x s. x .after .mode ≡ accepting)
-unfolding rules.ends next-counted
+unfolding rules.ends numbers-rules
 i-kept-through-Y κs a x s e w p = let q : accepting ≡ controller-mode.Mode.Idle = sym w ∙ ap (λ (d : controller-acted.Acted). d .after .mode) (p ∙ ap (λ (z : controller-end.End). controller.acted (rules.controller-acts numbering (controller.end z) rules.ControllerAct.come-back)) e) in clash cc
 
 pub counter-starts-again : RulesOut comes-back-kinds.ps comes-back-kinds.r comes-back.Post (λ κs a. a .0 ≡ controller-in accepting false) (λ κs a x s. x .after .numbers .used ≡ 0)
-unfolding rules.ends next-counted
+unfolding rules.ends numbers-rules
 counter-starts-again κs a x s e w p = unequal (sym w ∙ ap (λ (d : controller-acted.Acted). d .after .numbers .used) (p ∙ ap (λ (z : controller-end.End). controller.acted (rules.controller-acts numbering (controller.end z) rules.ControllerAct.come-back)) e)) refl
 
 -- a controller that forgot its numbers would carry out data of the time before
@@ -96,17 +96,17 @@ unfolding rules.ends
 needI-is-looked-up κs a x s e w p = true≢false (sym w ∙ p ∙ (λ i. rules.unknown (numbering .used (numbersMeans (e .0 i))) (forController (e .1 i))))
 
 pub never-says-7 : RulesOut take-refusal-kinds.ps take-refusal-kinds.r take-refusal.Post (λ κs a. (a .0 ≡ controller-in acking true) × (a .1 .0 ≡ for-controller.Packet (up.Data (record { 0 = 5 })))) (λ κs a x s. x ≡ 0)
-unfolding rules.ends next-counted
+unfolding rules.ends numbers-rules
 never-says-7 κs a x s e w p = unequal (sym w ∙ (p ∙ (λ i. refusal (rules.controller-rules numbering (controller.end (e .0 i)) (rules.ControllerAct.take (forController (e .1 i))))))) refl
 
 pub says-7-before-4 : RulesOut take-refusal-kinds.ps take-refusal-kinds.r take-refusal.Post (λ κs a. (a .0 ≡ controller-in acking false) × (a .1 .0 ≡ for-controller.Packet (up.Data (record { 0 = 5 })))) (λ κs a x s. x ≡ 7)
-unfolding rules.ends next-counted
+unfolding rules.ends numbers-rules
 says-7-before-4 κs a x s e w p = unequal (sym w ∙ (p ∙ (λ i. refusal (rules.controller-rules numbering (controller.end (e .0 i)) (rules.ControllerAct.take (forController (e .1 i))))))) refl
 
 pub send-says-6-before-4 : RulesOut send-refusal-kinds.ps send-refusal-kinds.r send-refusal.Post (λ κs a. (a .0 ≡ false) × (a .1 .0 ≡ for-console.Nothing)) (λ κs a x s. x ≡ 6)
-unfolding rules.ends next-counted
+unfolding rules.ends numbers-rules
 send-says-6-before-4 κs a x s e w p = unequal (sym w ∙ (p ∙ (λ i. first (rules.down-4 (e .0 i) ∷ rules.mode-6 (forConsole (e .1 i)) ∷ [])))) refl
 
 pub send-never-says-6 : RulesOut send-refusal-kinds.ps send-refusal-kinds.r send-refusal.Post (λ κs a. (a .0 ≡ true) × (a .1 .0 ≡ for-console.Nothing)) (λ κs a x s. x ≡ 0)
-unfolding rules.ends next-counted
+unfolding rules.ends numbers-rules
 send-never-says-6 κs a x s e w p = unequal (sym w ∙ (p ∙ (λ i. first (rules.down-4 (e .0 i) ∷ rules.mode-6 (forConsole (e .1 i)) ∷ [])))) refl

@@ -5,7 +5,7 @@ use lib.Dec.{eqb}
 use Rattle.ground.specs.Choice.{if_then_else_}
 use Rattle.wire.specs.declared.I.{I}
 use Rattle.rules.specs.Supply.{numbering}
-use Rattle.numbers.specs.Numbers.{numbersMeans, numbersFresh}
+use Rattle.numbers.specs.Numbers.{numbersMeans, numbersKept, numbersFresh}
 use Rattle.numbers.specs.declared.Numbers.{Numbers}
 use Rattle.ends_controller.specs.declared.Mode.the-variants.{Accept, Ack}
 use Rattle.ends_controller.specs.declared.Mode as controller
@@ -14,7 +14,7 @@ use Rattle.ends_controller.specs.declared.fields.Controller.{Controller}
 use Rattle.ends_controller.specs.declared.fields.ControllerRead.{ControllerRead}
 use Rattle.ends_controller.specs.declared.fields.ControllerRead.the-variants as controller-read
 
--- its numbers are sound, as any that fit in 32 bits are. j and i both 0 or neither; i and last are not both set; each of them is one of its own numbers
+-- its numbers are sound: last used at most reserved, a block of 1 to 1,024. j and i both 0 or neither; i and last are not both set; each of them is one of its own numbers
 unfoldable pub controllerOk : Controller → Bool
 controllerOk c =
     numbering .sound (numbersMeans (c .numbers))
@@ -48,12 +48,12 @@ controllerWith numbers (Ack last) up =
 abbrev pub controllerFields : controller-end.End → Controller
 controllerFields e = controllerWith (e .numbers) (e .mode) (e .up)
 
--- its last used, which a box keeps through a power loss
-abbrev pub lastUsedI : Controller → I
-lastUsedI c = record { 0 = c .numbers .used }
+-- its numbers as its number record holds them, which a box keeps through a power loss
+abbrev pub controllerKept : Controller → Numbers
+controllerKept c = numbersKept (c .numbers .reserved) (c .numbers .block)
 
 abbrev pub freshController : I → Controller
 freshController used = controllerWith (numbersFresh (used .0)) controller.Mode.Idle true
 
-abbrev pub downedController : I → Controller
-downedController used = controllerWith (numbersFresh (used .0)) controller.Mode.Idle false
+abbrev pub downedController : Numbers → Controller
+downedController kept = controllerWith kept controller.Mode.Idle false

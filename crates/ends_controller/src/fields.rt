@@ -135,12 +135,12 @@ pub fn fresh_controller(used: I) -> Controller
     }
 }
 
-// After power loss: down, with the last used of its number record; Y brings it back.
-pub fn downed_controller(used: I) -> Controller
-    ensures { λ r. ⌜ r ≡ downedController used ⌝ }
+// After power loss: down, with the numbers of its number record; Y brings it back.
+pub fn downed_controller(kept: Numbers) -> Controller
+    ensures { λ r. ⌜ r ≡ downedController kept ⌝ }
 {
     Controller {
-        numbers: numbers::fresh(used.0),
+        numbers: kept,
         j: J(0),
         i: I(0),
         last: I(0),

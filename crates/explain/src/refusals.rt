@@ -1,4 +1,4 @@
-// The sentences of document 01's table of refusals.
+// The sentences of document 01's table of refusals; 14 is said of both versions of a number record too.
 use crate::text::say;
 use ends::Report;
 
@@ -17,7 +17,7 @@ fn sentence(n: u8) {
         11 => say(b"11: P with a cell outside 0x20 to 0x7E"),
         12 => say(b"12: packet, record or reply buffer of a wrong length"),
         13 => say(b"13: mark wrong"),
-        14 => say(b"14: version not 1"),
+        14 => say(b"14: version wrong"),
         _ => say(b"15: any other field outside its table"),
     }
 }

@@ -50,6 +50,7 @@ fn print_console_end(e: ends_console::End) {
     print_up(e.up);
     print_console_mode(mode);
     say_with(b", last used J ", e.numbers.used);
+    say_with(b", reserved to ", e.numbers.reserved);
 }
 
 fn print_console(c: Console) {
@@ -67,6 +68,7 @@ fn print_controller_end(e: ends_controller::End) {
     print_up(e.up);
     print_controller_mode(mode);
     say_with(b", last used I ", e.numbers.used);
+    say_with(b", reserved to ", e.numbers.reserved);
 }
 
 fn print_controller(c: Controller) {

@@ -5,15 +5,27 @@ use mathlib.Core.List.{[], _∷_, _++_}
 use lib.ListN.{length, getD, take, replicate}
 use Prim.Native.Nat.{_-_}
 use denote.Ref.{now}
+use Rattle.ground.specs.Block.{isBlock}
 use Rattle.ground.specs.Cell.{cell, cells, isMessage, spaces}
 use Rattle.ground.specs.Every.{filled}
 use Rattle.ground.proofs.Promise.{RulesOut}
+use Rattle.ground.proofs.is_block.Kinds as is-block-kinds
+use Rattle.ground.proofs.is_block.Reads as is-block
 use Rattle.ground.proofs.all_cells.Kinds as all-cells-kinds
 use Rattle.ground.proofs.all_cells.Reads as all-cells
 use Rattle.ground.proofs.is_message.Kinds as is-message-kinds
 use Rattle.ground.proofs.is_message.Reads as is-message
 use Rattle.ground.proofs.all_are.Kinds as all-are-kinds
 use Rattle.ground.proofs.all_are.Reads as all-are
+
+pub block-0-is-one : RulesOut is-block-kinds.ps is-block-kinds.r is-block.Post (λ κs a. a .0 ≡ 0) (λ κs a x s. x ≡ true)
+block-0-is-one κs a x s e w p = true≢false (sym w ∙ p ∙ ap isBlock e)
+
+pub block-1024-is-none : RulesOut is-block-kinds.ps is-block-kinds.r is-block.Post (λ κs a. a .0 ≡ 1024) (λ κs a x s. x ≡ false)
+block-1024-is-none κs a x s e w p = true≢false (sym (p ∙ ap isBlock e) ∙ w)
+
+pub block-1025-is-one : RulesOut is-block-kinds.ps is-block-kinds.r is-block.Post (λ κs a. a .0 ≡ 1025) (λ κs a x s. x ≡ true)
+block-1025-is-one κs a x s e w p = true≢false (sym w ∙ p ∙ ap isBlock e)
 
 pub all-cells-always-yes : RulesOut all-cells-kinds.ps all-cells-kinds.r all-cells.Post (λ κs a. now (a .0) ≡ 0x7F ∷ []) (λ κs a x s. x ≡ true)
 unfolding cells

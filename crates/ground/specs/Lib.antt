@@ -1,3 +1,4 @@
+pub mod Block
 pub mod Bytes
 pub mod Cell
 pub mod Choice

@@ -1,5 +1,6 @@
-// What a cell of a message is, and scans of a whole slice.
+// What a cell of a message is, what a block of numbers is, and scans of a whole slice.
 ghost use mathlib.Core.Path.{_≡_};
+ghost use Rattle.ground.specs.Block.{isBlock};
 ghost use Rattle.ground.specs.Cell.{cell, cells, isMessage};
 ghost use Rattle.ground.specs.Every.{filled};
 
@@ -7,6 +8,12 @@ fn is_cell(b: u8) -> bool
     ensures { λ r. ⌜ r ≡ cell b ⌝ }
 {
     (0x20 <= b) & (b <= 0x7E)
+}
+
+pub fn is_block(b: u16) -> bool
+    ensures { λ r. ⌜ r ≡ isBlock b ⌝ }
+{
+    (1 <= b) & (b <= 1024)
 }
 
 // Whether every byte of `s` is a cell. It looks at all, so that the compiler takes many at a time.

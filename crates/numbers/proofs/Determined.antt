@@ -1,6 +1,8 @@
 -- Each promise of the crate determines its answer.
 use mathlib.Core.Path.{sym, _∙_}
 use Rattle.ground.proofs.Promise.{Determined}
+use Rattle.numbers.proofs.kept.Kinds as kept-kinds
+use Rattle.numbers.proofs.kept.Reads as kept
 use Rattle.numbers.proofs.fresh.Kinds as fresh-kinds
 use Rattle.numbers.proofs.fresh.Reads as fresh
 use Rattle.numbers.proofs.next.Kinds as next-kinds
@@ -13,6 +15,9 @@ use Rattle.numbers.proofs.is_used.Kinds as is-used-kinds
 use Rattle.numbers.proofs.is_used.Reads as is-used
 use Rattle.numbers.proofs.sound.Kinds as sound-kinds
 use Rattle.numbers.proofs.sound.Reads as sound
+
+pub kept-determined : Determined kept-kinds.ps kept-kinds.r kept.Post
+kept-determined κs a x y s t p q = p ∙ sym q
 
 pub fresh-determined : Determined fresh-kinds.ps fresh-kinds.r fresh.Post
 fresh-determined κs a x y s t p q = p ∙ sym q

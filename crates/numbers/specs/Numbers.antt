@@ -13,14 +13,18 @@ use Rattle.numbers.specs.declared.Move.the-variants.{Stay, Take, Back}
 use Rattle.numbers.specs.declared.Numbers.{Numbers}
 
 abbrev pub numbersMeans : Numbers → rules.Numbers
-numbersMeans n = n .used
+numbersMeans n = record { last = n .used; reserved = n .reserved; block = n .block }
 
 abbrev pub numbersBack : rules.Numbers → Numbers
-numbersBack s = record { used = s }
+numbersBack s = record { used = s .last; reserved = s .reserved; block = s .block }
+
+-- as a number record holds them
+abbrev pub numbersKept : ℕ → ℕ → Numbers
+numbersKept reserved block = numbersBack (rules.stored reserved block)
 
 -- a fresh end has used the numbers up to this one
 abbrev pub numbersFresh : ℕ → Numbers
-numbersFresh used = record { used = used }
+numbersFresh used = numbersBack (rules.fresh-numbers used)
 
 -- ## A number, or none, which is 0
 

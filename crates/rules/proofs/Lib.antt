@@ -3,6 +3,7 @@ pub mod Bears
 pub mod Bench
 pub mod BenchBears
 pub mod BenchOnRadio
+pub mod Blocks
 pub mod ConsoleMoves
 pub mod ControllerMoves
 pub mod Demand3

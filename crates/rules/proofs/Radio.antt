@@ -211,14 +211,19 @@ module _ {S M : Type 0} (U : Supply S) (laws : Lawful S U) (good : M → Bool) w
       if-holds (λ (d : ControllerActed S (Labelled M)). Used U (d .after .numbers) k) (eqb (refusal (controller-rules U e act)) 0) _ _
       (λ p. controller-grows U Any (Used U) (Used U) (used-tracked U laws) e act k u) (λ p. u)
 
+  -- numbers of which none is taken back
+  abbrev More : S → S → Type 0
+  More s s′ = (k : ℕ) → Used U s k → Used U s′ k
+
+  -- every number that an end has used, its kept record has used too
   pub record Follows (past : Log M) (l : Link S (Labelled M)) : Type 1 where
     pub ghost-console : Console S (Labelled M)
     pub ghost-controller : Controller S
     pub holds : Kept U laws good past (ghost ghost-console ghost-controller (l .bench))
     pub console : Alike ConsoleMode.idle ghost-console (l .bench .console)
     pub controller : Alike ControllerMode.idle ghost-controller (l .bench .controller)
-    pub console-kept : l .console-kept ≡ ghost-console .numbers
-    pub controller-kept : l .controller-kept ≡ ghost-controller .numbers
+    pub console-kept : More (ghost-console .numbers) (l .console-kept)
+    pub controller-kept : More (ghost-controller .numbers) (l .controller-kept)
 
   module _ (past : Log M) (l : Link S (Labelled M)) (f : Follows past l) (a : Action M) where
     abbrev n : ℕ
@@ -243,12 +248,16 @@ module _ {S M : Type 0} (U : Supply S) (laws : Lawful S U) (good : M → Bool) w
     abbrev After : Asked (Labelled M) → Type 1
     After x =
         let o = aired U (fit good) (l .bench) x in
-        Follows (write (row n (held-label (l .bench .console .mode)) a (o .report)) past) (goes-on (o .after) (keeps x (o .after) l))
+        Follows (write (row n (held-label (l .bench .console .mode)) a (o .report)) past) (goes-on (o .after) (keeps U x (o .after) l))
 
     -- the row is the same where the console is, or where nothing is answered
     row-same : (x : Report (Labelled M)) → (c ≡ l .bench .console) ⊎ No-answer x → row n (held-label (c .mode)) a x ≡ row n (held-label (l .bench .console .mode)) a x
     row-same x (inl p) = ap (λ (z : Console S (Labelled M)). row n (held-label (z .mode)) a x) p
     row-same x (inr h) = row-held n (held-label (c .mode)) (held-label (l .bench .console .mode)) a x h
+
+    -- what is kept has used all that the end has
+    kept-so : {s s′ : S} → s ≡ s′ → More s′ (U .back s)
+    kept-so {s} e k u = laws .back-keeps s k (subst (λ z. Used U z k) (sym e) u)
 
     -- a step that goes through
     goes-through : (x : Asked (Labelled M)) → asks (l .bench) (a .letter) (a .place) (labelled n (a .message)) ≡ x → After x
@@ -268,7 +277,7 @@ module _ {S M : Type 0} (U : Supply S) (laws : Lawful S U) (good : M → Bool) w
               (subst (λ (p : Option (ToController (Labelled M))). Kept U laws good (write (row n (held-label (c .mode)) a (d .report)) past) (left p)) (same .0 .sent) (followed (console act) e));
           console = same .0 .after;
           controller = f .controller;
-          console-kept = alike-numbers ConsoleMode.idle (d .after) (d′ .after) (same .0 .after);
+          console-kept = kept-so (alike-numbers ConsoleMode.idle (d .after) (d′ .after) (same .0 .after));
           controller-kept = f .controller-kept;
         }
     goes-through (controller act) e =
@@ -287,7 +296,7 @@ module _ {S M : Type 0} (U : Supply S) (laws : Lawful S U) (good : M → Bool) w
           console = f .console;
           controller = same .after;
           console-kept = f .console-kept;
-          controller-kept = alike-numbers ControllerMode.idle (d .after) (d′ .after) (same .after);
+          controller-kept = kept-so (alike-numbers ControllerMode.idle (d .after) (d′ .after) (same .after));
         }
     goes-through no-end e =
         record {
@@ -301,10 +310,6 @@ module _ {S M : Type 0} (U : Supply S) (laws : Lawful S U) (good : M → Bool) w
         }
 
     -- ## A power cut: the end that is followed goes down with all it has, and with the numbers of its kept record
-
-    -- numbers of which none is taken back
-    abbrev More : S → S → Type 0
-    More s s′ = (k : ℕ) → Used U s k → Used U s′ k
 
     with-numbers : (j i : S) → More (c .numbers) j → More (r .numbers) i
         → Kept U laws good past (ghost (record { numbers = j; mode = c .mode; up = c .up }) (record { numbers = i; mode = r .mode; up = r .up }) (l .bench))
@@ -349,7 +354,7 @@ module _ {S M : Type 0} (U : Supply S) (laws : Lawful S U) (good : M → Bool) w
               (step-holds U laws good past _ (action C-down 0 0 (a .message)) (with-numbers s (r .numbers) more (unchanged (Used U (r .numbers)))));
           console = inr (refl, refl);
           controller = f .controller;
-          console-kept = refl;
+          console-kept = unchanged (Used U s);
           controller-kept = f .controller-kept;
         }
 
@@ -367,7 +372,7 @@ module _ {S M : Type 0} (U : Supply S) (laws : Lawful S U) (good : M → Bool) w
           console = f .console;
           controller = inr (refl, refl);
           console-kept = f .console-kept;
-          controller-kept = refl;
+          controller-kept = unchanged (Used U s);
         }
 
     abbrev Cut : Asked (Labelled M) → Link S (Labelled M) → Type 1
@@ -376,17 +381,17 @@ module _ {S M : Type 0} (U : Supply S) (laws : Lawful S U) (good : M → Bool) w
     -- before the record was kept
     cut-unkept : (x : Asked (Labelled M)) → Cut x l
     unfolding fails
-    cut-unkept (console act) = console-cut (l .console-kept) (λ k u. subst (λ s. Used U s k) (sym (f .console-kept)) u)
-    cut-unkept (controller act) = controller-cut (l .controller-kept) (λ k u. subst (λ s. Used U s k) (sym (f .controller-kept)) u)
+    cut-unkept (console act) = console-cut (l .console-kept) (f .console-kept)
+    cut-unkept (controller act) = controller-cut (l .controller-kept) (f .controller-kept)
     cut-unkept no-end = f
 
     -- after it was kept
-    cut-kept : (x : Asked (Labelled M)) → Cut x (keeps x (aired U (fit good) (l .bench) x .after) l)
+    cut-kept : (x : Asked (Labelled M)) → Cut x (keeps U x (aired U (fit good) (l .bench) x .after) l)
     unfolding fails keeps aired
     cut-kept (console act) =
-        console-cut _ (λ k u. console-step-grows (l .bench .console) act k (subst (λ z. Used U z k) (sym (alike-numbers ConsoleMode.idle c (l .bench .console) (f .console))) u))
+        console-cut _ (λ k u. laws .back-keeps _ k (console-step-grows (l .bench .console) act k (subst (λ z. Used U z k) (sym (alike-numbers ConsoleMode.idle c (l .bench .console) (f .console))) u)))
     cut-kept (controller act) =
-        controller-cut _ (λ k u. controller-step-grows (l .bench .controller) act k (subst (λ z. Used U z k) (sym (alike-numbers ControllerMode.idle r (l .bench .controller) (f .controller))) u))
+        controller-cut _ (λ k u. laws .back-keeps _ k (controller-step-grows (l .bench .controller) act k (subst (λ z. Used U z k) (sym (alike-numbers ControllerMode.idle r (l .bench .controller) (f .controller))) u)))
     cut-kept no-end = f
 
   -- ## Whatever happens
@@ -414,8 +419,8 @@ module _ {S M : Type 0} (U : Supply S) (laws : Lawful S U) (good : M → Bool) w
         holds = fresh-kept U laws good j i;
         console = inl refl;
         controller = inl refl;
-        console-kept = refl;
-        controller-kept = refl;
+        console-kept = unchanged (Used U j);
+        controller-kept = unchanged (Used U i);
       }
 
 -- ## The numbers taken off
@@ -434,7 +439,7 @@ module _ {M N : Type 0} (f : M → N) where
     nat-aired b (controller act) = simp (nat-controller-step f U)
     nat-aired b no-end = refl
 
-    nat-keeps : (x : Asked M) (b : Bench S M) (l : Link S M) → keeps (in-asked f x) (in-bench f b) (in-link l) ≡ in-link (keeps x b l)
+    nat-keeps : (x : Asked M) (b : Bench S M) (l : Link S M) → keeps U (in-asked f x) (in-bench f b) (in-link l) ≡ in-link (keeps U x b l)
     unfolding keeps
     nat-keeps (console act) b l = refl
     nat-keeps (controller act) b l = refl

@@ -5,7 +5,8 @@ use mathlib.Core.Path.{_≡_, refl}
 use mathlib.Core.Bool.{Bool, true, false}
 use mathlib.Core.List.{List, [], _∷_, _++_}
 use lib.Dec.{eqb}
-use Rattle.rules.specs.Supply.{counted}
+use Rattle.ground.specs.Choice.{if_then_else_}
+use Rattle.rules.specs.Supply.{counted, numbering, fresh-numbers, numbers-rules}
 use Rattle.rules.specs.Letters.{Letter, P-put, Q-need, D-data, S-take, O-offer, R-take, X-down, Y-back}
 use Rattle.rules.specs.Bench.{action, rules}
 use Rattle.rules.specs.Log.{Labelled, Log, Put, Delivered, AnsweredLost, ControllerDown, ControllerBack, put-count}
@@ -39,6 +40,11 @@ old-copy-not-fresh = refl
 pub told-lost : radio-log counted any 0 0 (delivered-once ++ (restarted ++ (heard-again ++ (does S-take 2 ∷ [])))) ≡ AnsweredLost 1 ∷ ControllerBack ∷ ControllerDown ∷ Delivered 1 7 ∷ Put 1 7 ∷ []
 unfolding rules aired keeps fails happens rows-left written
 told-lost = refl
+
+-- the same with numbers in blocks: the controller comes back with all that it had reserved used
+pub old-copy-not-fresh-in-blocks : radio-log numbering any (fresh-numbers 0) (fresh-numbers 0) (delivered-once ++ (restarted ++ heard-again)) ≡ ControllerBack ∷ ControllerDown ∷ Delivered 1 7 ∷ Put 1 7 ∷ []
+unfolding rules numbers-rules if_then_else_ aired keeps fails happens rows-left written
+old-copy-not-fresh-in-blocks = refl
 
 -- ## A box that breaks the rule: its record is still the one that it started with
 

@@ -68,7 +68,7 @@ module _ {S M : Type 0} (U : Supply S) (good : M → Bool) where
 
     -- ## Whatever happens
 
-    aired-ok : (l : Link S M) (x : Asked M) → Link-ok l → Handed-ok x → let o = aired U good (l .bench) x in Link-ok (record { bench = o .after; console-kept = keeps x (o .after) l .console-kept; controller-kept = keeps x (o .after) l .controller-kept })
+    aired-ok : (l : Link S M) (x : Asked M) → Link-ok l → Handed-ok x → let o = aired U good (l .bench) x in Link-ok (record { bench = o .after; console-kept = keeps U x (o .after) l .console-kept; controller-kept = keeps U x (o .after) l .controller-kept })
     unfolding aired keeps
     aired-ok l (console act) h x =
         let d = console-step U good (l .bench .console) act in
@@ -78,7 +78,7 @@ module _ {S M : Type 0} (U : Supply S) (good : M → Bool) where
           controller = h .controller;
           ups = all-append _ (l .bench .toController) (copies-of 1 (d .sent)) (h .ups) (all-copies _ 1 (d .sent) (k .1));
           downs = h .downs;
-          console-kept = k .0 .numbers;
+          console-kept = laws .back-sound _ (k .0 .numbers);
           controller-kept = h .controller-kept;
         }
     aired-ok l (controller act) h x =
@@ -90,7 +90,7 @@ module _ {S M : Type 0} (U : Supply S) (good : M → Bool) where
           ups = h .ups;
           downs = all-append _ (l .bench .toConsole) (copies-of 1 (d .sent)) (h .downs) (all-copies _ 1 (d .sent) (k .1));
           console-kept = h .console-kept;
-          controller-kept = k .0 .numbers;
+          controller-kept = laws .back-sound _ (k .0 .numbers);
         }
     aired-ok l no-end h x = h
 
@@ -122,17 +122,17 @@ module _ {S M : Type 0} (U : Supply S) (good : M → Bool) where
     with-kept l j i h p q =
         record { console = h .console; controller = h .controller; ups = h .ups; downs = h .downs; console-kept = p; controller-kept = q }
 
-    keeps-ok : (x : Asked M) (l : Link S M) → Link-ok l → Handed-ok x → Link-ok (keeps x (aired U good (l .bench) x .after) l)
+    keeps-ok : (x : Asked M) (l : Link S M) → Link-ok l → Handed-ok x → Link-ok (keeps U x (aired U good (l .bench) x .after) l)
     unfolding keeps aired
-    keeps-ok (console act) l h x = with-kept l _ _ h (console-step-ok (l .bench .console) act (h .console) x .0 .numbers) (h .controller-kept)
-    keeps-ok (controller act) l h x = with-kept l _ _ h (h .console-kept) (controller-step-ok (l .bench .controller) act (h .controller) x .0 .numbers)
+    keeps-ok (console act) l h x = with-kept l _ _ h (laws .back-sound _ (console-step-ok (l .bench .console) act (h .console) x .0 .numbers)) (h .controller-kept)
+    keeps-ok (controller act) l h x = with-kept l _ _ h (h .console-kept) (laws .back-sound _ (controller-step-ok (l .bench .controller) act (h .controller) x .0 .numbers))
     keeps-ok no-end l h x = h
 
     pub happens-ok : (l : Link S M) (h : Happening M) → Link-ok l → Link-ok (happens U good l h .after)
     unfolding happens
     happens-ok l (acts a) k = aired-ok l (asked l a) k (asks-ok (l .bench) (a .letter) (a .place) (a .message) (k .ups) (k .downs))
     happens-ok l (kept-and-cut a) k =
-        fails-ok (asked l a) (keeps (asked l a) (aired U good (l .bench) (asked l a) .after) l)
+        fails-ok (asked l a) (keeps U (asked l a) (aired U good (l .bench) (asked l a) .after) l)
         (keeps-ok (asked l a) l k (asks-ok (l .bench) (a .letter) (a .place) (a .message) (k .ups) (k .downs)))
     happens-ok l (cut a) k = fails-ok (asked l a) l k
 

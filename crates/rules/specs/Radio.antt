@@ -14,7 +14,8 @@ use Rattle.rules.specs.Demand3.{row, held-label, write, written, log, un
 
 -- ## The boxes and what is on the radio
 
--- the bench's two channels hold all that was ever sent; beside it each end's number record, as it is kept where no power cut reaches it
+-- the bench's two channels hold all that was ever sent; beside it each end's number record, as it is kept where no power cut reaches it: the numbers
+-- that the end has when it comes back
 pub record Link (S M : Type 0) : Type 0 where
   pub bench : Bench S M
   pub console-kept : S
@@ -41,15 +42,16 @@ module _ {S M : Type 0} (U : Supply S) (good : M → Bool) where
   aired b (controller act) = controller-did b 1 (controller-step U (b .controller) act)
   aired b no-end = record { report = nothing; after = b }
 
-module _ {S M : Type 0} where
+module _ {S M : Type 0} (U : Supply S) where
   -- the box that was asked keeps the number record of its end in b
   unfoldable pub keeps : Asked M → Bench S M → Link S M → Link S M
   keeps (console act) b l =
-      record { bench = l .bench; console-kept = b .console .numbers; controller-kept = l .controller-kept }
+      record { bench = l .bench; console-kept = U .back (b .console .numbers); controller-kept = l .controller-kept }
   keeps (controller act) b l =
-      record { bench = l .bench; console-kept = l .console-kept; controller-kept = b .controller .numbers }
+      record { bench = l .bench; console-kept = l .console-kept; controller-kept = U .back (b .controller .numbers) }
   keeps no-end b l = l
 
+module _ {S M : Type 0} where
   -- and goes on as it stands in b
   abbrev pub goes-on : Bench S M → Link S M → Link S M
   goes-on b l = record { bench = b; console-kept = l .console-kept; controller-kept = l .controller-kept }
@@ -89,9 +91,9 @@ module _ {S M : Type 0} (U : Supply S) (good : M → Bool) where
   unfoldable pub happens : Link S M → Happening M → Came S M
   happens l (acts a) =
       let o = aired U good (l .bench) (asked l a) in
-      record { report = o .report; after = goes-on (o .after) (keeps (asked l a) (o .after) l) }
+      record { report = o .report; after = goes-on (o .after) (keeps U (asked l a) (o .after) l) }
   happens l (kept-and-cut a) =
-      record { report = nothing; after = fails (asked l a) (keeps (asked l a) (aired U good (l .bench) (asked l a) .after) l) }
+      record { report = nothing; after = fails (asked l a) (keeps U (asked l a) (aired U good (l .bench) (asked l a) .after) l) }
   happens l (cut a) = record { report = nothing; after = fails (asked l a) l }
 
 -- two boxes that start with any two number records, both ends up and idle; a box that starts after power loss has had a cut before

@@ -4,8 +4,9 @@ use Prim.Native.Nat.{ℕ}
 use mathlib.Core.Bool.{true, false}
 use mathlib.Core.List.{List, [], _∷_, _++_}
 use lib.ListN.{replicate}
+use Rattle.ground.specs.Block.{fresh-block}
 use Rattle.ground.specs.Cell.{isMessage, spaces}
-use Rattle.rules.specs.Supply.{counted}
+use Rattle.rules.specs.Supply.{largest, Numbers, numbering, fresh-numbers}
 use Rattle.rules.specs.Letters.{P-put, Q-need, D-data, S-take, C-down, V-back, O-offer, R-take, X-down, Y-back, L-lose}
 use Rattle.rules.specs.Ends.{ToController, needI, order, ToConsole, ok, lost, ConsoleMode, in-needI, in-send, ControllerMode, in-ack, End}
 use Rattle.rules.specs.Ends.{Console, Controller, Report, nothing, delivered, answered-lost, refused}
@@ -76,72 +77,79 @@ records-1-to-7 = P start-filler ∷ Q 1 ∷ R 0 ∷ O 1 ∷ S 0 ∷ D 2 ∷ R 0 
 
 -- ## A line
 
-abbrev up : {Mode : Type 0} → ℕ → Mode → End ℕ Mode
-up last mode = record { numbers = last; mode = mode; up = true }
+-- each end with its last used and what is reserved; the block is a fresh end's
+abbrev at : ℕ → ℕ → Numbers
+at last reserved = record { last = last; reserved = reserved; block = fresh-block }
 
-abbrev down : {Mode : Type 0} → ℕ → Mode → End ℕ Mode
-down last mode = record { numbers = last; mode = mode; up = false }
+abbrev up : {Mode : Type 0} → Numbers → Mode → End Numbers Mode
+up numbers mode = record { numbers = numbers; mode = mode; up = true }
 
-abbrev bench : Console ℕ Row → Controller ℕ → List (ToController Row) → List ToConsole → Bench ℕ Row
+abbrev down : {Mode : Type 0} → Numbers → Mode → End Numbers Mode
+down numbers mode = record { numbers = numbers; mode = mode; up = false }
+
+abbrev bench : Console Numbers Row → Controller Numbers → List (ToController Row) → List ToConsole → Bench Numbers Row
 bench console controller toController toConsole =
     record { console = console; controller = controller; toController = toController; toConsole = toConsole }
 
+abbrev starting : ℕ → ℕ → Bench Numbers Row
+starting j i = fresh (fresh-numbers j) (fresh-numbers i)
+
 pub record Check : Type 0 where
-  pub start : Bench ℕ Row
+  pub start : Bench Numbers Row
   pub actions : List (Action Row)
   pub said : List (Report Row)
-  pub left : Bench ℕ Row
+  pub left : Bench Numbers Row
 
-abbrev check : Bench ℕ Row → List (Action Row) → List (Report Row) → Bench ℕ Row → Check
+abbrev check : Bench Numbers Row → List (Action Row) → List (Report Row) → Bench Numbers Row → Check
 check start actions said left = record { start = start; actions = actions; said = said; left = left }
 
 -- what is then seen
 unfoldable pub played : Check → Check
 played c =
-    check (c .start) (c .actions) (reports counted isMessage (c .start) (c .actions)) (run counted isMessage (c .start) (c .actions))
+    check (c .start) (c .actions) (reports numbering isMessage (c .start) (c .actions)) (run numbering isMessage (c .start) (c .actions))
 
 -- ## The table
 
 unfoldable pub starred : List Check
 starred =
     -- P, P: the second is 6
-    check (fresh 0 0) (P a ∷ P b ∷ []) (nothing ∷ refused 6 ∷ [])
-    (bench (up 1 (in-needI 1 a)) (up 0 ControllerMode.idle) [] [])
+    check (starting 0 0) (P a ∷ P b ∷ []) (nothing ∷ refused 6 ∷ [])
+    (bench (up (at 1 64) (in-needI 1 a)) (up (at 0 0) ControllerMode.idle) [] [])
     -- starting J 4,294,967,294: P is accepted; starting at 4,294,967,295: 8
-    ∷ check (fresh 4_294_967_294 0) (P a ∷ []) (nothing ∷ [])
-    (bench (up 4_294_967_295 (in-needI 4_294_967_295 a)) (up 0 ControllerMode.idle) [] [])
-    ∷ check (fresh 4_294_967_295 0) (P a ∷ []) (refused 8 ∷ [])
-    (bench (up 4_294_967_295 ConsoleMode.idle) (up 0 ControllerMode.idle) [] [])
+    ∷ check (starting 4_294_967_294 0) (P a ∷ []) (nothing ∷ [])
+    (bench (up (at largest largest) (in-needI 4_294_967_295 a)) (up (at 0 0) ControllerMode.idle) [] [])
+    ∷ check (starting 4_294_967_295 0) (P a ∷ []) (refused 8 ∷ [])
+    (bench (up (at largest largest) ConsoleMode.idle) (up (at 0 0) ControllerMode.idle) [] [])
     -- starting I 4,294,967,295: P, Q1, R0 takes the packet and the controller stays idle
-    ∷ check (fresh 0 4_294_967_295) (P a ∷ Q 1 ∷ R 0 ∷ []) (nothing ∷ nothing ∷ nothing ∷ [])
-    (bench (up 1 (in-needI 1 a)) (up 4_294_967_295 ControllerMode.idle) [] [])
+    ∷ check (starting 0 4_294_967_295) (P a ∷ Q 1 ∷ R 0 ∷ []) (nothing ∷ nothing ∷ nothing ∷ [])
+    (bench (up (at 1 64) (in-needI 1 a)) (up (at largest largest) ControllerMode.idle) [] [])
     -- fresh: L0 is 3
-    ∷ check (fresh 0 0) (L 0 ∷ []) (refused 3 ∷ []) (fresh 0 0)
+    ∷ check (starting 0 0) (L 0 ∷ []) (refused 3 ∷ []) (starting 0 0)
     -- fresh: V is 5; C, C, both accepted
-    ∷ check (fresh 0 0) («V» ∷ C ∷ C ∷ []) (refused 5 ∷ nothing ∷ nothing ∷ [])
-    (bench (down 0 ConsoleMode.idle) (up 0 ControllerMode.idle) [] [])
+    ∷ check (starting 0 0) («V» ∷ C ∷ C ∷ []) (refused 5 ∷ nothing ∷ nothing ∷ [])
+    (bench (down (at 0 0) ConsoleMode.idle) (up (at 0 0) ControllerMode.idle) [] [])
     -- after C: P of a good row is 4; P of a row with 0x7F is 11
-    ∷ check (fresh 0 0) (C ∷ P a ∷ P bad ∷ []) (nothing ∷ refused 4 ∷ refused 11 ∷ [])
-    (bench (down 0 ConsoleMode.idle) (up 0 ControllerMode.idle) [] [])
+    ∷ check (starting 0 0) (C ∷ P a ∷ P bad ∷ []) (nothing ∷ refused 4 ∷ refused 11 ∷ [])
+    (bench (down (at 0 0) ConsoleMode.idle) (up (at 0 0) ControllerMode.idle) [] [])
     -- records 1 to 7, then X, Y, D1, R0 with one copy: the first OK is still in the air at place 0, lost stands at place 1
-    ∷ check (fresh 0 0) (records-1-to-7 ++ X ∷ Y ∷ D 1 ∷ R 0 with 1 ∷ [])
+    ∷ check (starting 0 0) (records-1-to-7 ++ X ∷ Y ∷ D 1 ∷ R 0 with 1 ∷ [])
     (replicate 6 nothing ++ delivered start-filler ∷ replicate 4 nothing)
-    (bench (up 1 (in-send 1 start-filler)) (up 1 ControllerMode.idle) (order 1 start-filler ∷ []) (ok 1 ∷ lost 1 ∷ []))
+    (bench (up (at 1 64) (in-send 1 start-filler)) (up (at 64 64) ControllerMode.idle) (order 1 start-filler ∷ []) (ok 1 ∷ lost 1 ∷ []))
     -- then S1: it answers lost although the order was delivered
-    ∷ check (fresh 0 0) (records-1-to-7 ++ X ∷ Y ∷ D 1 ∷ R 0 with 1 ∷ S 1 ∷ [])
+    ∷ check (starting 0 0) (records-1-to-7 ++ X ∷ Y ∷ D 1 ∷ R 0 with 1 ∷ S 1 ∷ [])
     (replicate 6 nothing ++ delivered start-filler ∷ replicate 4 nothing ++ answered-lost ∷ [])
-    (bench (up 1 ConsoleMode.idle) (up 1 ControllerMode.idle) (order 1 start-filler ∷ []) (ok 1 ∷ []))
+    (bench (up (at 1 64) ConsoleMode.idle) (up (at 64 64) ControllerMode.idle) (order 1 start-filler ∷ []) (ok 1 ∷ []))
     -- P a, Q1, R0, O1, S0, D1, C, V, P b, R0: a is delivered while b is held
-    ∷ check (fresh 0 0) (P a ∷ Q 1 ∷ R 0 ∷ O 1 ∷ S 0 ∷ D 1 ∷ C ∷ «V» ∷ P b ∷ R 0 ∷ [])
-    (replicate 9 nothing ++ delivered a ∷ []) (bench (up 2 (in-needI 2 b)) (up 1 (in-ack 1)) [] [])
+    ∷ check (starting 0 0) (P a ∷ Q 1 ∷ R 0 ∷ O 1 ∷ S 0 ∷ D 1 ∷ C ∷ «V» ∷ P b ∷ R 0 ∷ [])
+    (replicate 9 nothing ++ delivered a ∷ []) (bench (up (at 65 128) (in-needI 65 b)) (up (at 1 64) (in-ack 1)) [] [])
     -- P, Q1, R0, O1, C, V, P, S0 with one copy, R0: the controller is idle again
-    ∷ check (fresh 0 0) (P a ∷ Q 1 ∷ R 0 ∷ O 1 ∷ C ∷ «V» ∷ P a ∷ S 0 with 1 ∷ R 0 ∷ [])
-    (replicate 9 nothing) (bench (up 2 (in-needI 2 a)) (up 1 ControllerMode.idle) [] [])
+    ∷ check (starting 0 0) (P a ∷ Q 1 ∷ R 0 ∷ O 1 ∷ C ∷ «V» ∷ P a ∷ S 0 with 1 ∷ R 0 ∷ [])
+    (replicate 9 nothing) (bench (up (at 65 128) (in-needI 65 a)) (up (at 1 64) ControllerMode.idle) [] [])
     -- P, Q3 21 times, Q1: 64 packets. Q1 is 9, Q0 is accepted
-    ∷ check (fresh 0 0) (P a ∷ replicate 21 (Q 3) ++ Q 1 ∷ Q 1 ∷ Q 0 ∷ [])
+    ∷ check (starting 0 0) (P a ∷ replicate 21 (Q 3) ++ Q 1 ∷ Q 1 ∷ Q 0 ∷ [])
     (replicate 23 nothing ++ refused 9 ∷ nothing ∷ [])
-    (bench (up 1 (in-needI 1 a)) (up 0 ControllerMode.idle) (replicate 64 (needI 1)) [])
-    -- last used I 3, data with I 5 at place 0: R is 7
-    ∷ check (bench (up 0 ConsoleMode.idle) (up 3 ControllerMode.idle) (order 5 a ∷ []) []) (R 0 ∷ []) (refused 7 ∷ [])
-    (bench (up 0 ConsoleMode.idle) (up 3 ControllerMode.idle) (order 5 a ∷ []) [])
+    (bench (up (at 1 64) (in-needI 1 a)) (up (at 0 0) ControllerMode.idle) (replicate 64 (needI 1)) [])
+    -- last used I 3, data with I 5 at place 0: R is 7, although 5 is reserved
+    ∷ check (bench (up (at 0 0) ConsoleMode.idle) (up (at 3 64) ControllerMode.idle) (order 5 a ∷ []) []) (R 0 ∷ []) (refused 7 ∷ [])
+    (bench (up (at 0 0) ConsoleMode.idle) (up (at 3 64) ControllerMode.idle) (order 5 a ∷ []) [])
     ∷ []

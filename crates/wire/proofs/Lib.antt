@@ -1,3 +1,4 @@
+pub mod Carrying
 pub mod Determined
 pub mod Found
 pub mod Frames
@@ -6,7 +7,9 @@ pub mod Numbers
 pub mod Outcomes
 pub mod PacketsFit
 pub mod Reading
+pub mod RecordReading
 pub mod RecordTrips
+pub mod RecordWriting
 pub mod Refusals
 pub mod Trips
 pub mod Vectors

@@ -1,6 +1,6 @@
--- Numbers in bytes: the two round trips, and the four bytes that the code computes.
+-- Numbers in bytes: the two round trips, and the four or two bytes that the code computes.
 use Prim.Native.Nat.{ℕ, zero, suc, _+_, _*_, _/_, _%_, _^_, _≤_, _<_}
-use mathlib.Core.Path.{_≡_, refl, ap}
+use mathlib.Core.Path.{_≡_, refl, sym, ap, _∙_}
 use mathlib.Core.List.{List, [], _∷_}
 use native.Mathlib.Numerals.{add-one, add-two, add-three}
 use native.Mathlib.Omega.{arith}
@@ -11,7 +11,7 @@ use Rattle.ground.specs.Bytes.{Bytes}
 use Rattle.ground.proofs.Bytes.{bytes-take, bytes-drop}
 use Rattle.wire.specs.Frame.{field}
 use Rattle.wire.specs.Number.{bytesOf, value}
-use Rattle.ground.proofs.Elements.{field-elements}
+use Rattle.ground.proofs.Elements.{elements, rest-elements, field-elements}
 
 power : (n : ℕ) → 0 < 256 ^ n
 power n = one-le-pow n 256 (omega arith)
@@ -57,7 +57,7 @@ bytes-bytesOf zero x h i = omega arith
 bytes-bytesOf (suc n) x h zero = div-lt-iff-lt-mul (power n) .1 (rw (pow-succ' 256 n) at h)
 bytes-bytesOf (suc n) x h (suc i) = bytes-bytesOf n (x % 256 ^ n) (mod-lt x (power n)) i
 
--- the four bytes of a number, and the number of four bytes, as the code computes them
+-- the bytes of a number, and the number of bytes, as the code computes them
 pub big-endian-is : (n : ℕ) → n / 0x1000000 ∷ n / 0x10000 % 0x100 ∷ n / 0x100 % 0x100 ∷ n % 0x100 ∷ [] ≡ bytesOf 4 n
 unfolding bytesOf
 big-endian-is n =
@@ -66,14 +66,28 @@ big-endian-is n =
     let e₃ : n % 0x100 ≡ n % 0x1000000 % 0x10000 % 0x100 / 1 = omega arith in
     rw (e₁, e₂, e₃)
 
+pub big-endian-16-is : (n : ℕ) → n / 0x100 ∷ n % 0x100 ∷ [] ≡ bytesOf 2 n
+unfolding bytesOf
+big-endian-16-is n = let e : n % 0x100 ≡ n % 0x100 / 1 = omega arith in ap (λ (b : ℕ). n / 0x100 ∷ b ∷ []) e
+
+-- a number of one byte in two
+pub byte-in-two : (n : ℕ) → n < 256 → bytesOf 2 n ≡ 0 ∷ n ∷ []
+byte-in-two n h =
+    let e : n / 0x100 ≡ 0 = div-eq-of-lt h in
+    let f : n % 0x100 ≡ n = mod-eq-of-lt h in
+    sym (big-endian-16-is n) ∙ rw (e, f)
+
 pub four-is : (s : List ℕ) {a b c d : ℕ} → length s ≡ 4 → a ≡ getD s 0 0 → b ≡ getD s 1 0 → c ≡ getD s 2 0 → d ≡ getD s 3 0 → a * 0x1000000 + b * 0x10000 + c * 0x100 + d ≡ value s
 unfolding value
-four-is [] l e₀ e₁ e₂ e₃ = absurd (omega (arith, l))
-four-is (x ∷ []) l e₀ e₁ e₂ e₃ = absurd (omega (arith, l))
-four-is (x ∷ y ∷ []) l e₀ e₁ e₂ e₃ = absurd (omega (arith, l))
-four-is (x ∷ y ∷ z ∷ []) l e₀ e₁ e₂ e₃ = absurd (omega (arith, l))
-four-is (x ∷ y ∷ z ∷ w ∷ []) l e₀ e₁ e₂ e₃ = rw (e₀, e₁, e₂, e₃) (omega arith)
-four-is (x ∷ y ∷ z ∷ w ∷ v ∷ s) l e₀ e₁ e₂ e₃ = absurd (omega (arith, l))
+four-is s l e₀ e₁ e₂ e₃ =
+    let f : getD s 0 0 * 0x1000000 + getD s 1 0 * 0x10000 + getD s 2 0 * 0x100 + getD s 3 0 ≡ value (elements s 0 4) = omega arith in
+    rw (e₀, e₁, e₂, e₃) (f ∙ ap value (rest-elements 4 s 0 l))
+
+pub two-is : (s : List ℕ) {a b : ℕ} → length s ≡ 2 → a ≡ getD s 0 0 → b ≡ getD s 1 0 → a * 0x100 + b ≡ value s
+unfolding value
+two-is s l e₀ e₁ =
+    let f : getD s 0 0 * 0x100 + getD s 1 0 ≡ value (elements s 0 2) = omega arith in
+    rw (e₀, e₁) (f ∙ ap value (rest-elements 2 s 0 l))
 
 pub number-at-is : (s : List ℕ) (at : ℕ) {n : ℕ} → at + 4 ≤ length s → n ≡ value (getD s at 0 ∷ getD s (at + 1) 0 ∷ getD s (at + 2) 0 ∷ getD s (at + 3) 0 ∷ []) → n ≡ value (field s at 4)
 number-at-is s at h e = rw (field-elements 4 s at h) (rw (add-one, add-two, add-three) at e)

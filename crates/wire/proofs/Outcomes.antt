@@ -45,11 +45,11 @@ module _ (s : List ℕ) where
 
   carried : readRefusal s ≡ 0 → carries (headAt s) (drop 16 s) ≡ true
   unfolding readRefusal
-  carried z = framed 32 0x4C s (carries (headAt s) (drop 16 s)) z .fields
+  carried z = framed 32 0x4C 1 s (carries (headAt s) (drop 16 s)) z .fields
 
   pub unrefused-long : readRefusal s ≡ 0 → length s ≡ 32
   unfolding readRefusal
-  unrefused-long z = framed 32 0x4C s (carries (headAt s) (drop 16 s)) z .long
+  unrefused-long z = framed 32 0x4C 1 s (carries (headAt s) (drop 16 s)) z .long
 
   pub head-refused : {n : ℕ} → packetRead s .head ≡ Refused n → (readRefusal s ≡ n) × (n ≡ 0 → ⊥)
   head-refused {n} e =

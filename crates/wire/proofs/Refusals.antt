@@ -18,4 +18,4 @@ write-packet-refusal-leaves κs a x s t n p = p .1 ∙ rw (ne-eqb (writeRefusal 
 
 pub write-record-refusal-leaves : RefusalLeaves write-record-kinds.ps write-record-kinds.r write-record.Post (λ κs a. Unit {0}) (λ κs x. x ≡ 0 → ⊥) (λ κs a. now (a .0)) (λ κs x s. now (s .0))
 unfolding recordWritten if_then_else_
-write-record-refusal-leaves κs a x s t n p = p .1 ∙ rw (ne-eqb (recordWriteRefusal (length (now (a .0)))) 0 (λ z. n (p .0 ∙ z)))
+write-record-refusal-leaves κs a x s t n p = p .1 ∙ rw (ne-eqb (recordWriteRefusal (length (now (a .0))) (a .1 .0)) 0 (λ z. n (p .0 ∙ z)))

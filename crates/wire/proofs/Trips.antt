@@ -48,7 +48,7 @@ taken s b {p} e =
     let q = sym (packet-read s z) ∙ e in
     let h : headAt s ≡ Is (p .head) = ap (λ (r : ReadPacket). r .head) q in
     let m : drop 16 s ≡ p .message = ap (λ (r : ReadPacket). r .message) q in
-    let g = framed 32 0x4C s (carries (headAt s) (drop 16 s)) z in
+    let g = framed 32 0x4C 1 s (carries (headAt s) (drop 16 s)) z in
     let l = g .long in
     let v = says (getD s 5 0) (value (field s 8 4)) (value (field s 12 4)) h in
     record {
@@ -58,7 +58,7 @@ taken s b {p} e =
         second = rw (v .second) at (field-below s 12 4 b (omega arith));
       };
       fitting = fits-both p (v .good) (rw (h, m) at (g .fields));
-      same = rw (← v .kind, ← v .first, ← v .second, ← m, field-back s 8 4 b (omega arith), field-back s 12 4 b (omega arith), ← split-field s 12 4, ← split-field s 8 4) (frame-rest 32 0x4C s _ (omega arith) g);
+      same = rw (← v .kind, ← v .first, ← v .second, ← m, field-back s 8 4 b (omega arith), field-back s 12 4 b (omega arith), ← split-field s 12 4, ← split-field s 8 4) (frame-rest 32 0x4C 1 s _ (omega arith) g);
     }
 
 pub write-back : (s : List ℕ) → Bytes s → {p : Packet} → packetRead s ≡ accepted p → packetBytes p ≡ s

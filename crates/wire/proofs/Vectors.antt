@@ -2,18 +2,18 @@
 use Prim.Native.Nat.{ℕ}
 use mathlib.Core.Path.{_≡_, refl}
 use mathlib.Core.List.{List, [], _∷_, _++_, map}
-use lib.ListN.{take, set, replicate}
+use lib.ListN.{length, take, set, replicate}
 use Rattle.ground.specs.Cell.{cells, isMessage, spaces}
 use Rattle.ground.specs.Choice.{if_then_else_}
 use Rattle.ground.specs.Every.{filled}
 use Rattle.ground.specs.First.{first}
 use Rattle.wire.specs.Number.{bytesOf, value}
 use Rattle.wire.specs.Packet.{isBlank, directionOf, fits, packetBytes, headOf, headAt, readRefusal, accepted, refused, packetRead, writeRefusal, packetWritten}
-use Rattle.wire.specs.Record.{recordBytes, lastUsedOf, lastUsedAt, recordRefusal, recordRead, recordWriteRefusal, recordWritten}
+use Rattle.wire.specs.Record.{recordBytes, recordOf, blockAt, recordAt, recordRefusal, recordRead, recordWriteRefusal, recordWritten, renewed, aged}
 use Rattle.wire.specs.declared.Direction.the-variants.{ToController, ToConsole}
 use Rattle.wire.specs.declared.Head.the-variants.{NeedI, Offer, Data, Ok, Lost, Done}
-use Rattle.wire.specs.declared.LastUsed.{LastUsed}
-use Rattle.wire.specs.declared.LastUsed.the-variants.{Console, Controller}
+use Rattle.wire.specs.declared.NumberRecord.{NumberRecord}
+use Rattle.wire.specs.declared.NumberRecord.the-variants.{ConsoleOld, ControllerOld, Console, Controller}
 use Rattle.wire.specs.declared.Packet.{Packet}
 use Rattle.wire.specs.declared.ReadRecord.the-variants.{Refused, Is}
 
@@ -113,40 +113,73 @@ unfit-12 : map (writeRefusal 31) unfit ≡ replicate 4 12
 unfolding writeRefusal first if_then_else_
 unfit-12 = refl
 
--- records of both ends, and their bytes
-abbrev records : List (LastUsed × List ℕ)
+-- records of both versions and both ends, and their bytes
+abbrev records : List (NumberRecord × List ℕ)
 records =
-    (Console (record { 0 = 0 }), 0x48 ∷ 0x53 ∷ 0x4E ∷ 0 ∷ 1 ∷ 1 ∷ 0 ∷ 0 ∷ 0 ∷ 0 ∷ 0 ∷ 0 ∷ [])
-    ∷ (Console (record { 0 = 0xFFFFFFFF }), 0x48 ∷ 0x53 ∷ 0x4E ∷ 0 ∷ 1 ∷ 1 ∷ 0 ∷ 0 ∷ 0xFF ∷ 0xFF ∷ 0xFF ∷ 0xFF ∷ [])
-    ∷ (Controller (record { 0 = 1 }), 0x48 ∷ 0x53 ∷ 0x4E ∷ 0 ∷ 1 ∷ 2 ∷ 0 ∷ 0 ∷ 0 ∷ 0 ∷ 0 ∷ 1 ∷ [])
+    (ConsoleOld (record { 0 = 0 }), 0x48 ∷ 0x53 ∷ 0x4E ∷ 0 ∷ 1 ∷ 1 ∷ 0 ∷ 0 ∷ 0 ∷ 0 ∷ 0 ∷ 0 ∷ [])
+    ∷ (ConsoleOld (record { 0 = 0xFFFFFFFF }), 0x48 ∷ 0x53 ∷ 0x4E ∷ 0 ∷ 1 ∷ 1 ∷ 0 ∷ 0 ∷ 0xFF ∷ 0xFF ∷ 0xFF ∷ 0xFF ∷ [])
+    ∷ (ControllerOld (record { 0 = 1 }), 0x48 ∷ 0x53 ∷ 0x4E ∷ 0 ∷ 1 ∷ 2 ∷ 0 ∷ 0 ∷ 0 ∷ 0 ∷ 0 ∷ 1 ∷ [])
+    ∷ (Console (record { 0 = 7 }) 64, 0x48 ∷ 0x53 ∷ 0x4E ∷ 0 ∷ 2 ∷ 1 ∷ 0 ∷ 0 ∷ 0 ∷ 0 ∷ 0 ∷ 7 ∷ 0 ∷ 0x40 ∷ 0 ∷ 0 ∷ [])
+    ∷ (Console (record { 0 = 0 }) 1, 0x48 ∷ 0x53 ∷ 0x4E ∷ 0 ∷ 2 ∷ 1 ∷ 0 ∷ 0 ∷ 0 ∷ 0 ∷ 0 ∷ 0 ∷ 0 ∷ 1 ∷ 0 ∷ 0 ∷ [])
+    ∷ (Controller (record { 0 = 0xFFFFFFFF }) 1024, 0x48 ∷ 0x53 ∷ 0x4E ∷ 0 ∷ 2 ∷ 2 ∷ 0 ∷ 0 ∷ 0xFF ∷ 0xFF ∷ 0xFF ∷ 0xFF ∷ 4 ∷ 0 ∷ 0 ∷ 0 ∷ [])
     ∷ []
 
-records-written : map (λ (v : LastUsed × List ℕ). recordWritten (replicate 12 7) (v .0)) records ≡ map (λ (v : LastUsed × List ℕ). v .1) records
+records-written : map (λ (v : NumberRecord × List ℕ). recordWritten (replicate (length (v .1)) 7) (v .0)) records ≡ map (λ (v : NumberRecord × List ℕ). v .1) records
 unfolding recordWritten recordWriteRefusal recordBytes bytesOf first if_then_else_
 records-written = refl
 
-records-read : map (λ (v : LastUsed × List ℕ). recordRead (v .1)) records ≡ map (λ (v : LastUsed × List ℕ). Is (v .0)) records
-unfolding recordRead recordRefusal lastUsedAt lastUsedOf value bytesOf first if_then_else_
+records-read : map (λ (v : NumberRecord × List ℕ). recordRead (v .1)) records ≡ map (λ (v : NumberRecord × List ℕ). Is (v .0)) records
+unfolding recordRead recordRefusal recordAt blockAt recordOf value bytesOf first if_then_else_
 records-read = refl
 
+-- carried to version 2, and back
+records-renewed : map (λ (v : NumberRecord × List ℕ). renewed (v .0)) records
+    ≡ Console (record { 0 = 0 }) 64 ∷ Console (record { 0 = 0xFFFFFFFF }) 64 ∷ Controller (record { 0 = 1 }) 64 ∷ Console (record { 0 = 7 }) 64 ∷ Console (record { 0 = 0 }) 1 ∷ Controller (record { 0 = 0xFFFFFFFF }) 1024 ∷ []
+records-renewed = refl
+
+records-aged : map (λ (v : NumberRecord × List ℕ). aged (v .0)) records
+    ≡ ConsoleOld (record { 0 = 0 }) ∷ ConsoleOld (record { 0 = 0xFFFFFFFF }) ∷ ControllerOld (record { 0 = 1 }) ∷ ConsoleOld (record { 0 = 7 }) ∷ ConsoleOld (record { 0 = 0 }) ∷ ControllerOld (record { 0 = 0xFFFFFFFF }) ∷ []
+records-aged = refl
+
 -- records that are refused
-abbrev unused : List ℕ
-unused = 0x48 ∷ 0x53 ∷ 0x4E ∷ 0 ∷ 1 ∷ 1 ∷ replicate 6 0
+abbrev old : List ℕ
+old = 0x48 ∷ 0x53 ∷ 0x4E ∷ 0 ∷ 1 ∷ 1 ∷ replicate 6 0
+
+abbrev new : List ℕ
+new = 0x48 ∷ 0x53 ∷ 0x4E ∷ 0 ∷ 2 ∷ 1 ∷ 0 ∷ 0 ∷ 0 ∷ 0 ∷ 0 ∷ 7 ∷ 0 ∷ 0x40 ∷ 0 ∷ 0 ∷ []
 
 abbrev record-refusals : List (List ℕ × ℕ)
 record-refusals =
-    (take 11 unused, 12)
-    ∷ (unused ++ (0 ∷ []), 12)
-    ∷ (take 11 (set unused 2 0x4C), 12)
-    ∷ (set unused 2 0x4C, 13)
-    ∷ (set (set unused 2 0x4C) 4 2, 13)
-    ∷ (set unused 4 2, 14)
-    ∷ (set (set unused 4 2) 5 3, 14)
-    ∷ (set unused 5 0, 15)
-    ∷ (set unused 5 3, 15)
-    ∷ (set unused 7 1, 15)
+    (take 11 old, 12)
+    ∷ (old ++ (0 ∷ []), 12)
+    ∷ (take 15 new, 12)
+    ∷ (new ++ (0 ∷ []), 12)
+    ∷ (take 11 (set old 2 0x4C), 12)
+    ∷ (set old 2 0x4C, 13)
+    ∷ (set (set old 2 0x4C) 4 2, 13)
+    ∷ (set (set new 2 0x4C) 4 1, 13)
+    ∷ (set old 4 2, 14)
+    ∷ (take 12 new, 14)
+    ∷ (set new 4 1, 14)
+    ∷ (set new 3 1, 14)
+    ∷ (set (set old 4 2) 5 3, 14)
+    ∷ (set old 5 0, 15)
+    ∷ (set old 5 3, 15)
+    ∷ (set old 7 1, 15)
+    ∷ (set new 5 3, 15)
+    ∷ (set new 6 1, 15)
+    ∷ (set new 13 0, 15)
+    ∷ (set (set new 12 4) 13 1, 15)
+    ∷ (set new 14 1, 15)
+    ∷ (set new 15 1, 15)
     ∷ []
 
 records-refused : map (λ (v : List ℕ × ℕ). recordRead (v .0)) record-refusals ≡ map (λ (v : List ℕ × ℕ). Refused (v .1)) record-refusals
-unfolding recordRead recordRefusal lastUsedAt lastUsedOf value bytesOf first if_then_else_
+unfolding recordRead recordRefusal recordAt blockAt recordOf value bytesOf first if_then_else_
 records-refused = refl
+
+-- each version to the other's length, and blocks that are none
+records-unwritten : recordWriteRefusal 16 (ConsoleOld (record { 0 = 7 })) ∷ recordWriteRefusal 12 (Console (record { 0 = 7 }) 64) ∷ recordWriteRefusal 12 (Console (record { 0 = 7 }) 0) ∷ map (λ (b : ℕ). recordWriteRefusal 16 (Controller (record { 0 = 7 }) b)) (0 ∷ 1 ∷ 1024 ∷ 1025 ∷ [])
+    ≡ 12 ∷ 12 ∷ 12 ∷ 15 ∷ 0 ∷ 0 ∷ 15 ∷ []
+unfolding recordWriteRefusal first if_then_else_
+records-unwritten = refl

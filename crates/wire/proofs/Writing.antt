@@ -5,7 +5,6 @@ use mathlib.Core.List.{List, [], _∷_, _++_, append-nil, append-assoc}
 use mathlib.Core.Bool.{Bool, true, false}
 use native.Mathlib.Nat.{le-refl}
 use native.Mathlib.Omega.{arith}
-use borrow.Author.Needs.{needs}
 use borrow.Author.Tests.{ne-eqb, eqb-true}
 use lib.ListN.{length, take, drop, drop-of-length-le, length-drop}
 use lib.Seq.{take-length, take-at, drop-at}
@@ -14,12 +13,10 @@ use Rattle.ground.specs.Choice.{if_then_else_}
 use Rattle.ground.specs.First.{first}
 use Rattle.ground.proofs.First.{none-wanting}
 use Rattle.wire.specs.declared.Head.{Head}
-use Rattle.wire.specs.declared.LastUsed.{LastUsed}
 use Rattle.wire.specs.declared.Packet.{Packet}
 use Rattle.wire.specs.Frame.{frame}
 use Rattle.wire.specs.Number.{bytesOf}
 use Rattle.wire.specs.Packet.{kindOf, firstOf, secondOf, numbered, table, fits, packetBytes, writeRefusal, packetWritten}
-use Rattle.wire.specs.Record.{endOf, numberOf, recordBytes, recordWriteRefusal, recordWritten}
 use Rattle.ground.proofs.Elements.{elements, rest-elements}
 use Rattle.ground.proofs.Copies.{copied, rest-lent}
 
@@ -32,16 +29,10 @@ unfolding fits
 fits-unnumbered p e f = rw (← e, f)
 
 -- arrays that are laid out element by element
-pub head-bytes-are : (h : Head) {k a b : ℕ} {u v : List ℕ} → k ≡ kindOf h → a ≡ firstOf h → b ≡ secondOf h → u ≡ bytesOf 4 a → v ≡ bytesOf 4 b → length u ≡ 4 → length v ≡ 4 → (0x48 ∷ 0x53 ∷ 0x4C ∷ 0 ∷ 1 ∷ k ∷ 0 ∷ 0 ∷ elements u 0 4) ++ elements v 0 4 ≡ frame 0x4C (kindOf h) ++ (bytesOf 4 (firstOf h) ++ bytesOf 4 (secondOf h))
+pub head-bytes-are : (h : Head) {k a b : ℕ} {u v : List ℕ} → k ≡ kindOf h → a ≡ firstOf h → b ≡ secondOf h → u ≡ bytesOf 4 a → v ≡ bytesOf 4 b → length u ≡ 4 → length v ≡ 4 → (0x48 ∷ 0x53 ∷ 0x4C ∷ 0 ∷ 1 ∷ k ∷ 0 ∷ 0 ∷ elements u 0 4) ++ elements v 0 4 ≡ frame 0x4C 1 (kindOf h) ++ (bytesOf 4 (firstOf h) ++ bytesOf 4 (secondOf h))
 head-bytes-are h {k} {u = u} {v = v} e f g i j l m =
-    let laid : (0x48 ∷ 0x53 ∷ 0x4C ∷ 0 ∷ 1 ∷ k ∷ 0 ∷ 0 ∷ elements u 0 4) ++ elements v 0 4 ≡ frame 0x4C k ++ (u ++ v) = unfold bytesOf in λ n. frame 0x4C k ++ (rest-elements 4 u 0 l n ++ rest-elements 4 v 0 m n) in
+    let laid : (0x48 ∷ 0x53 ∷ 0x4C ∷ 0 ∷ 1 ∷ k ∷ 0 ∷ 0 ∷ elements u 0 4) ++ elements v 0 4 ≡ frame 0x4C 1 k ++ (u ++ v) = unfold bytesOf in λ n. frame 0x4C 1 k ++ (rest-elements 4 u 0 l n ++ rest-elements 4 v 0 m n) in
     laid ∙ rw (i, j, e, f, g)
-
-pub record-bytes-are : (u : LastUsed) {e n : ℕ} {b : List ℕ} → e ≡ endOf u → n ≡ numberOf u → b ≡ bytesOf 4 n → length b ≡ 4 → 0x48 ∷ 0x53 ∷ 0x4E ∷ 0 ∷ 1 ∷ e ∷ 0 ∷ 0 ∷ elements b 0 4 ≡ recordBytes u
-unfolding recordBytes
-record-bytes-are u {e} {b = b} f g h l =
-    let laid : 0x48 ∷ 0x53 ∷ 0x4E ∷ 0 ∷ 1 ∷ e ∷ 0 ∷ 0 ∷ elements b 0 4 ≡ frame 0x4E e ++ b = unfold bytesOf in λ n. frame 0x4E e ++ rest-elements 4 b 0 l n in
-    laid ∙ rw (h, f, g)
 
 -- 32 bytes after the head's 16 are copied over the first of them
 module _ (hd out : List ℕ) {x : List ℕ} (l : length hd ≡ 16) (k : length out ≡ 32) (c : x ≡ take (length hd) hd ++ drop (length hd) out) where
@@ -57,7 +48,7 @@ module _ (hd out : List ℕ) {x : List ℕ} (l : length hd ≡ 16) (k : length o
   pub message-room : (m : List ℕ) → length m ≡ 16 → length m ≤ length (take (length x - 16) (drop 16 x))
   message-room m e = rw (lent, rest-long, e) (omega arith)
 
-  pub packet-put : (p : Packet) {y : List ℕ} → hd ≡ frame 0x4C (kindOf (p .head)) ++ (bytesOf 4 (firstOf (p .head)) ++ bytesOf 4 (secondOf (p .head))) → length (p .message) ≡ 16 → y ≡ take (length (p .message)) (p .message) ++ drop (length (p .message)) (take (length x - 16) (drop 16 x)) → take 16 x ++ (y ++ drop (length x - 16) (drop 16 x)) ≡ packetBytes p
+  pub packet-put : (p : Packet) {y : List ℕ} → hd ≡ frame 0x4C 1 (kindOf (p .head)) ++ (bytesOf 4 (firstOf (p .head)) ++ bytesOf 4 (secondOf (p .head))) → length (p .message) ≡ 16 → y ≡ take (length (p .message)) (p .message) ++ drop (length (p .message)) (take (length x - 16) (drop 16 x)) → take 16 x ++ (y ++ drop (length x - 16) (drop 16 x)) ≡ packetBytes p
   unfolding packetBytes
   packet-put p {y} h e f =
       let a : take 16 x ≡ hd = rw front (take-at hd (drop 16 out) 16 l) in
@@ -65,7 +56,7 @@ module _ (hd out : List ℕ) {x : List ℕ} (l : length hd ≡ 16) (k : length o
       let d : drop (length x - 16) (drop 16 x) ≡ [] = drop-of-length-le (drop 16 x) {i = length x - 16} (rw (length-drop 16 x) (le-refl (length x - 16))) in
       let f₁ = bytesOf 4 (firstOf (p .head)) in
       let f₂ = bytesOf 4 (secondOf (p .head)) in
-      let k = frame 0x4C (kindOf (p .head)) in
+      let k = frame 0x4C 1 (kindOf (p .head)) in
       rw (a, b, d, append-nil, h) (append-assoc k (f₁ ++ f₂) (p .message) ∙ ap (λ (r : List ℕ). k ++ r) (append-assoc f₁ f₂ (p .message)))
 
 -- a packet can be written to 32 bytes exactly where it fits
@@ -115,24 +106,3 @@ module _ (out : List ℕ) (p : Packet) where
 pub ruleset write-refusals = (write-12, write-15, write-0)
 
 pub ruleset writes = (written-12, written-15, written-0)
-
--- a write of a record: its length is wrong, and it is written
-pub record-write-12 : (out : List ℕ) → (length out ≡ 12 → ⊥) → 12 ≡ recordWriteRefusal (length out)
-unfolding recordWriteRefusal first if_then_else_
-record-write-12 out h = rw (ne-eqb (length out) 12 h)
-
-pub record-write-0 : (out : List ℕ) → length out ≡ 12 → 0 ≡ recordWriteRefusal (length out)
-unfolding recordWriteRefusal first if_then_else_
-record-write-0 out l = rw l
-
-pub record-written-12 : (out : List ℕ) (u : LastUsed) → (length out ≡ 12 → ⊥) → out ≡ recordWritten out u
-unfolding recordWritten if_then_else_
-record-written-12 out u h = rw (← record-write-12 out h)
-
-pub record-written-0 : (out : List ℕ) (u : LastUsed) {all x : List ℕ} → length out ≡ 12 → all ≡ recordBytes u → x ≡ take (length all) all ++ drop (length all) out → length all ≡ 12 → x ≡ recordWritten out u
-unfolding recordWritten if_then_else_
-record-written-0 out u {all = all} l b c m = rw (← record-write-0 out l) (copied all out c (l ∙ sym m) ∙ b)
-
-pub ruleset record-write-refusals = (record-write-12, record-write-0)
-
-pub ruleset record-writes = (record-written-12, record-written-0, needs)

@@ -1,7 +1,7 @@
 -- Programs that the promises shut out, each at one input.
 use Prim.Native.Nat.{ℕ, suc}
 use mathlib.Core.Path.{_≡_, refl, sym, ap, _∙_}
-use mathlib.Core.List.{List, [], _∷_}
+use mathlib.Core.List.{List, [], _∷_, _++_}
 use native.Mathlib.Omega.{arith}
 use lib.ListN.{length, getD, take, set, replicate}
 use contract.Lifetimes.{Lfts}
@@ -16,14 +16,15 @@ use Rattle.wire.specs.Number.{bytesOf, value}
 use Rattle.wire.specs.Packet.{isBlank, fits, headAt, kindOf, firstOf, secondOf, directionOf, headOf, readRefusal, accepted, refused, packetRead, writeRefusal, packetWritten}
 use Rattle.wire.specs.declared.Direction.the-variants.{ToController, ToConsole}
 use Rattle.wire.specs.declared.Head.the-variants.{NeedI, Offer, Ok}
-use Rattle.wire.specs.declared.LastUsed.{LastUsed}
-use Rattle.wire.specs.declared.LastUsed.the-variants.{Console, Controller}
+use Rattle.wire.specs.declared.NumberRecord.{NumberRecord}
+use Rattle.wire.specs.declared.NumberRecord.the-variants.{ConsoleOld, ControllerOld, Console}
 use Rattle.wire.specs.declared.Packet.{Packet}
 use Rattle.wire.specs.declared.ReadHead.{ReadHead}
 use Rattle.wire.specs.declared.ReadHead.the-variants.{Refused, Is}
 use Rattle.wire.specs.declared.ReadPacket.{ReadPacket}
-use Rattle.wire.specs.declared.ReadRecord.the-variants.{Refused as Unread, Is as Last}
-use Rattle.wire.specs.Record.{endOf, numberOf, lastUsedOf, recordBytes, recordRefusal, recordRead, recordWriteRefusal, recordWritten}
+use Rattle.wire.specs.declared.ReadRecord.{ReadRecord}
+use Rattle.wire.specs.declared.ReadRecord.the-variants.{Refused as Unread, Is as Recorded}
+use Rattle.wire.specs.Record.{endOf, numberOf, blockOf, recordOf, recordBytes, blockAt, recordAt, recordRefusal, recordRead, recordWriteRefusal, recordWritten, renewed, aged}
 use Rattle.wire.proofs.PacketsFit.{needI-fits}
 use Rattle.wire.proofs.Heads.{is-other}
 use Rattle.wire.proofs.RecordTrips.{is-other as is-unread, record-read-back}
@@ -47,15 +48,21 @@ use Rattle.wire.proofs.records.end_of.Kinds as end-of-kinds
 use Rattle.wire.proofs.records.end_of.Reads as end-of
 use Rattle.wire.proofs.records.number_of.Kinds as number-of-kinds
 use Rattle.wire.proofs.records.number_of.Reads as number-of
-use Rattle.wire.proofs.records.last_used_of.Kinds as last-used-of-kinds
-use Rattle.wire.proofs.records.last_used_of.Reads as last-used-of
+use Rattle.wire.proofs.records.block_of.Kinds as block-of-kinds
+use Rattle.wire.proofs.records.block_of.Reads as block-of
+use Rattle.wire.proofs.records.record_of.Kinds as record-of-kinds
+use Rattle.wire.proofs.records.record_of.Reads as record-of
+use Rattle.wire.proofs.records.renewed.Kinds as renewed-kinds
+use Rattle.wire.proofs.records.renewed.Reads as renews
+use Rattle.wire.proofs.records.aged.Kinds as aged-kinds
+use Rattle.wire.proofs.records.aged.Reads as ages
 use Rattle.wire.proofs.records.read_record.Kinds as read-record-kinds
 use Rattle.wire.proofs.records.read_record.Reads as read-record
 use Rattle.wire.proofs.records.write_record.Kinds as write-record-kinds
 use Rattle.wire.proofs.records.write_record.Reads as write-record
 
-abbrev unused : LastUsed
-unused = Console (record { 0 = 0 })
+abbrev unused : NumberRecord
+unused = ConsoleOld (record { 0 = 0 })
 
 -- ## Packets
 
@@ -135,22 +142,72 @@ says-15-of-31-bytes κs a x s e w p = unequal (sym w ∙ p .0 ∙ (λ i. writeRe
 -- ## Number records
 
 pub always-refuses-record : RulesOut read-record-kinds.ps read-record-kinds.r read-record.Post (λ κs a. now (a .0) ≡ recordBytes unused) (λ κs a x s. (n : ℕ) × (x ≡ Unread n))
-always-refuses-record κs a x s e w p = is-unread (w .0) unused (sym (w .1) ∙ p ∙ ap recordRead e ∙ record-read-back unused (omega arith))
+always-refuses-record κs a x s e w p = is-unread (w .0) unused (sym (w .1) ∙ p ∙ ap recordRead e ∙ record-read-back unused (omega arith) refl)
 
-pub accepts-every-record : RulesOut read-record-kinds.ps read-record-kinds.r read-record.Post (λ κs a. now (a .0) ≡ []) (λ κs a x s. (u : LastUsed) × (x ≡ Last u))
+pub accepts-every-record : RulesOut read-record-kinds.ps read-record-kinds.r read-record.Post (λ κs a. now (a .0) ≡ []) (λ κs a x s. (r : NumberRecord) × (x ≡ Recorded r))
 unfolding recordRead recordRefusal first if_then_else_
 accepts-every-record κs a x s e w p = is-unread 12 (w .0) (sym (p ∙ ap recordRead e) ∙ w .1)
 
-pub changes-no-record : RulesOut write-record-kinds.ps write-record-kinds.r write-record.Post (λ κs a. now (a .0) ≡ replicate 12 0) (λ κs a x s. now (s .0) ≡ now (a .0))
+-- a reader that takes bytes that it should have refused by this number
+abbrev Takes-record : List ℕ → Type 0
+Takes-record bytes = RulesOut read-record-kinds.ps read-record-kinds.r read-record.Post (λ κs a. now (a .0) ≡ bytes) (λ κs a x s. (r : NumberRecord) × (x ≡ Recorded r))
+
+took : (bytes : List ℕ) (n : ℕ) → recordRead bytes ≡ Unread n → Takes-record bytes
+took bytes n r κs a x s e w p = is-unread n (w .0) (sym (p ∙ ap recordRead e ∙ r) ∙ w .1)
+
+-- a record of version 2 with this version and this block in it
+abbrev new : ℕ → ℕ → List ℕ
+new version block = 0x48 ∷ 0x53 ∷ 0x4E ∷ 0 ∷ version ∷ 1 ∷ 0 ∷ 0 ∷ 0 ∷ 0 ∷ 0 ∷ 7 ∷ bytesOf 2 block ++ (0 ∷ 0 ∷ [])
+
+pub takes-version-2-of-12-bytes : Takes-record (take 12 (new 2 64))
+unfolding recordRead recordRefusal recordAt blockAt recordOf value bytesOf first if_then_else_
+takes-version-2-of-12-bytes = took (take 12 (new 2 64)) 14 refl
+
+pub takes-version-1-of-16-bytes : Takes-record (new 1 64)
+unfolding recordRead recordRefusal recordAt blockAt recordOf value bytesOf first if_then_else_
+takes-version-1-of-16-bytes = took (new 1 64) 14 refl
+
+pub takes-block-0 : Takes-record (new 2 0)
+unfolding recordRead recordRefusal recordAt blockAt recordOf value bytesOf first if_then_else_
+takes-block-0 = took (new 2 0) 15 refl
+
+pub takes-block-1025 : Takes-record (new 2 1025)
+unfolding recordRead recordRefusal recordAt blockAt recordOf value bytesOf first if_then_else_
+takes-block-1025 = took (new 2 1025) 15 refl
+
+pub takes-a-byte-after-the-block : Takes-record (set (new 2 64) 15 1)
+unfolding recordRead recordRefusal recordAt blockAt recordOf value bytesOf first if_then_else_
+takes-a-byte-after-the-block = took (set (new 2 64) 15 1) 15 refl
+
+pub says-14-before-13 : RulesOut read-record-kinds.ps read-record-kinds.r read-record.Post (λ κs a. now (a .0) ≡ set (new 1 64) 0 0x49) (λ κs a x s. x ≡ Unread 14)
+unfolding recordRead recordRefusal bytesOf first if_then_else_
+says-14-before-13 κs a x s e w p =
+    let q : Unread 14 ≡ Unread 13 = sym w ∙ p ∙ ap recordRead e in
+    let z : _≡_ {A = ℕ} 14 13 = cc in
+    unequal z refl
+
+-- a writer
+abbrev Writes-record : List ℕ → NumberRecord → ((κs : Lfts 1) → Dens κs write-record-kinds.ps → ℕ → AtExit (endedOf 1 write-record-kinds.ps write-record-kinds.r) κs → Type 0) → Type 0
+Writes-record out r does = RulesOut write-record-kinds.ps write-record-kinds.r write-record.Post (λ κs a. (now (a .0) ≡ out) × (a .1 .0 ≡ r)) does
+
+pub changes-no-record : Writes-record (replicate 12 0) unused (λ κs a x s. now (s .0) ≡ now (a .0))
 unfolding recordWritten recordWriteRefusal recordBytes first if_then_else_
 changes-no-record κs a x s e w p =
-    let q : replicate 12 0 ≡ recordBytes (a .1 .0) = sym e ∙ sym w ∙ p .1 ∙ ap (λ (l : List ℕ). recordWritten l (a .1 .0)) e in
+    let q : replicate 12 0 ≡ recordBytes unused = sym (e .0) ∙ sym w ∙ p .1 ∙ (λ i. recordWritten (e .0 i) (e .1 i)) in
     unequal (ap (λ (l : List ℕ). getD l 0 0) q) refl
 
 -- one that looks for 12 bytes at least
-pub writes-to-13-bytes : RulesOut write-record-kinds.ps write-record-kinds.r write-record.Post (λ κs a. now (a .0) ≡ replicate 13 0) (λ κs a x s. x ≡ 0)
+pub writes-to-13-bytes : Writes-record (replicate 13 0) unused (λ κs a x s. x ≡ 0)
 unfolding recordWriteRefusal first if_then_else_
-writes-to-13-bytes κs a x s e w p = unequal (sym w ∙ p .0 ∙ ap (λ (l : List ℕ). recordWriteRefusal (length l)) e) refl
+writes-to-13-bytes κs a x s e w p = unequal (sym w ∙ p .0 ∙ (λ i. recordWriteRefusal (length (e .0 i)) (e .1 i))) refl
+
+pub writes-block-1025 : Writes-record (replicate 16 0) (Console (record { 0 = 7 }) 1025) (λ κs a x s. x ≡ 0)
+unfolding recordWriteRefusal first if_then_else_
+writes-block-1025 κs a x s e w p = unequal (sym w ∙ p .0 ∙ (λ i. recordWriteRefusal (length (e .0 i)) (e .1 i))) refl
+
+pub writes-version-1-to-16-bytes : Writes-record (replicate 16 0) unused (λ κs a x s. x ≡ 0)
+unfolding recordWriteRefusal first if_then_else_
+writes-version-1-to-16-bytes κs a x s e w p = unequal (sym w ∙ p .0 ∙ (λ i. recordWriteRefusal (length (e .0 i)) (e .1 i))) refl
 
 -- ## Heads
 
@@ -191,27 +248,64 @@ pub always-zeros : RulesOut big-endian-kinds.ps big-endian-kinds.r big-endian.Po
 unfolding bytesOf
 always-zeros κs a x s e w p = unequal (ap (λ (l : List ℕ). getD l 3 0) (sym w ∙ p ∙ ap (bytesOf 4) e)) refl
 
--- ## Last used
+-- ## What a number record has
 
-pub always-end-1 : RulesOut end-of-kinds.ps end-of-kinds.r end-of.Post (λ κs a. a .0 ≡ Controller (record { 0 = 0 })) (λ κs a x s. x ≡ 1)
+pub always-end-1 : RulesOut end-of-kinds.ps end-of-kinds.r end-of.Post (λ κs a. a .0 ≡ ControllerOld (record { 0 = 0 })) (λ κs a x s. x ≡ 1)
 always-end-1 κs a x s e w p = unequal (sym w ∙ p ∙ ap endOf e) refl
 
 pub ends-from-0 : RulesOut end-of-kinds.ps end-of-kinds.r end-of.Post (λ κs a. a .0 ≡ unused) (λ κs a x s. x ≡ 0)
 ends-from-0 κs a x s e w p = unequal (sym w ∙ p ∙ ap endOf e) refl
 
-pub always-number-0 : RulesOut number-of-kinds.ps number-of-kinds.r number-of.Post (λ κs a. a .0 ≡ Console (record { 0 = 1 })) (λ κs a x s. x ≡ 0)
+pub always-number-0 : RulesOut number-of-kinds.ps number-of-kinds.r number-of.Post (λ κs a. a .0 ≡ ConsoleOld (record { 0 = 1 })) (λ κs a x s. x ≡ 0)
 always-number-0 κs a x s e w p = unequal (sym w ∙ p ∙ ap numberOf e) refl
 
-pub next-number : RulesOut number-of-kinds.ps number-of-kinds.r number-of.Post (λ κs a. a .0 ≡ Console (record { 0 = 1 })) (λ κs a x s. x ≡ suc (numberOf (a .0)))
-next-number κs a x s e w p = unequal (sym (ap (λ u. suc (numberOf u)) e) ∙ sym w ∙ p ∙ ap numberOf e) refl
+pub next-number : RulesOut number-of-kinds.ps number-of-kinds.r number-of.Post (λ κs a. a .0 ≡ ConsoleOld (record { 0 = 1 })) (λ κs a x s. x ≡ suc (numberOf (a .0)))
+next-number κs a x s e w p = unequal (sym (ap (λ r. suc (numberOf r)) e) ∙ sym w ∙ p ∙ ap numberOf e) refl
 
-pub refuses-number-0 : RulesOut last-used-of-kinds.ps last-used-of-kinds.r last-used-of.Post (λ κs a. (a .0 ≡ 1) × (a .1 .0 ≡ 0)) (λ κs a x s. x ≡ Unread 15)
-unfolding lastUsedOf if_then_else_
-refuses-number-0 κs a x s e w p = is-unread 15 unused (sym w ∙ p ∙ (λ i. lastUsedOf (e .0 i) (e .1 i)))
+pub block-64-of-version-1 : RulesOut block-of-kinds.ps block-of-kinds.r block-of.Post (λ κs a. a .0 ≡ unused) (λ κs a x s. x ≡ 64)
+block-64-of-version-1 κs a x s e w p = unequal (sym w ∙ p ∙ ap blockOf e) refl
 
-pub says-14-of-end-3 : RulesOut last-used-of-kinds.ps last-used-of-kinds.r last-used-of.Post (λ κs a. a .0 ≡ 3) (λ κs a x s. x ≡ Unread 14)
-unfolding lastUsedOf if_then_else_
+pub always-block-0 : RulesOut block-of-kinds.ps block-of-kinds.r block-of.Post (λ κs a. a .0 ≡ Console (record { 0 = 7 }) 64) (λ κs a x s. x ≡ 0)
+always-block-0 κs a x s e w p = unequal (sym w ∙ p ∙ ap blockOf e) refl
+
+-- ## A record of an end, a number and a block
+
+abbrev Makes : ℕ → ℕ → ℕ → ReadRecord → Type 0
+Makes end number block y = RulesOut record-of-kinds.ps record-of-kinds.r record-of.Post (λ κs a. (a .0 ≡ end) × (a .1 .0 ≡ number) × (a .1 .1 .0 ≡ block)) (λ κs a x s. x ≡ y)
+
+pub refuses-number-0 : Makes 1 0 0 (Unread 15)
+unfolding recordOf if_then_else_
+refuses-number-0 κs a x s e w p = is-unread 15 unused (sym w ∙ p ∙ (λ i. recordOf (e .0 i) (e .1 i) (e .2 i)))
+
+pub says-14-of-end-3 : Makes 3 0 0 (Unread 14)
+unfolding recordOf if_then_else_
 says-14-of-end-3 κs a x s e w p =
-    let q : Unread 14 ≡ Unread 15 = sym w ∙ p ∙ ap (λ (n : ℕ). lastUsedOf n (a .1 .0)) e in
+    let q : Unread 14 ≡ Unread 15 = sym w ∙ p ∙ (λ i. recordOf (e .0 i) (e .1 i) (e .2 i)) in
     let z : _≡_ {A = ℕ} 14 15 = cc in
     unequal z refl
+
+pub version-2-with-block-0 : Makes 1 7 0 (Recorded (Console (record { 0 = 7 }) 0))
+unfolding recordOf if_then_else_
+version-2-with-block-0 κs a x s e w p =
+    let q : Recorded (Console (record { 0 = 7 }) 0) ≡ Recorded (ConsoleOld (record { 0 = 7 })) = sym w ∙ p ∙ (λ i. recordOf (e .0 i) (e .1 i) (e .2 i)) in
+    clash cc
+
+-- ## A record carried from version to version
+
+abbrev Renews : NumberRecord → NumberRecord → Type 0
+Renews r y = RulesOut renewed-kinds.ps renewed-kinds.r renews.Post (λ κs a. a .0 ≡ r) (λ κs a x s. x ≡ y)
+
+pub renews-with-block-1 : Renews unused (Console (record { 0 = 0 }) 1)
+renews-with-block-1 κs a x s e w p = unequal (ap blockOf (sym w ∙ p ∙ ap renewed e)) refl
+
+pub renews-to-block-64 : Renews (Console (record { 0 = 7 }) 1) (Console (record { 0 = 7 }) 64)
+renews-to-block-64 κs a x s e w p = unequal (ap blockOf (sym w ∙ p ∙ ap renewed e)) refl
+
+abbrev Ages : NumberRecord → NumberRecord → Type 0
+Ages r y = RulesOut aged-kinds.ps aged-kinds.r ages.Post (λ κs a. a .0 ≡ r) (λ κs a x s. x ≡ y)
+
+pub ages-to-number-0 : Ages (Console (record { 0 = 7 }) 64) unused
+ages-to-number-0 κs a x s e w p = unequal (ap numberOf (sym w ∙ p ∙ ap aged e)) refl
+
+pub ages-to-the-other-end : Ages (Console (record { 0 = 7 }) 64) (ControllerOld (record { 0 = 7 }))
+ages-to-the-other-end κs a x s e w p = unequal (ap endOf (sym w ∙ p ∙ ap aged e)) refl

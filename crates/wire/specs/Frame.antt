@@ -17,21 +17,21 @@ bytesAre s at (b ∷ bs) = eqb (getD s at 0) b && bytesAre s (suc at) bs
 abbrev pub mark : ℕ → List ℕ
 mark letter = 0x48 ∷ 0x53 ∷ letter ∷ []
 
--- bytes 0-2 mark; 3-4 version 1; 5 kind or end; 6-7 zero
-abbrev pub frame : ℕ → ℕ → List ℕ
-frame letter kind = mark letter ++ bytesOf 2 1 ++ (kind ∷ bytesOf 2 0)
+-- bytes 0-2 mark; 3-4 version; 5 kind or end; 6-7 zero
+abbrev pub frame : ℕ → ℕ → ℕ → List ℕ
+frame letter version kind = mark letter ++ bytesOf 2 version ++ (kind ∷ bytesOf 2 0)
 
 -- the refusals of those bytes, but for byte 5, in their order
-abbrev pub frameRefusals : ℕ → List ℕ → List (ℕ × Bool)
-frameRefusals letter s =
+abbrev pub frameRefusals : ℕ → ℕ → List ℕ → List (ℕ × Bool)
+frameRefusals letter version s =
     (13, not (bytesAre s 0 (mark letter)))
-    ∷ (14, not (bytesAre s 3 (bytesOf 2 1)))
+    ∷ (14, not (bytesAre s 3 (bytesOf 2 version)))
     ∷ (15, not (bytesAre s 6 (bytesOf 2 0)))
     ∷ []
 
 -- the refusals of a read of n bytes in their order: `good` says whether the other fields are in their tables
-abbrev pub readRefusals : ℕ → ℕ → List ℕ → Bool → List (ℕ × Bool)
-readRefusals n letter s good = (12, not (eqb (length s) n)) ∷ frameRefusals letter s ++ ((15, not good) ∷ [])
+abbrev pub readRefusals : ℕ → ℕ → ℕ → List ℕ → Bool → List (ℕ × Bool)
+readRefusals n letter version s good = (12, not (eqb (length s) n)) ∷ frameRefusals letter version s ++ ((15, not good) ∷ [])
 
 -- what is made of the first of some candidates that passes a test, and what stands for none
 abbrev pub found : {A B : Type 0} → (A → Bool) → (A → B) → B → List A → B

@@ -64,7 +64,7 @@ fits p = numbered (p .head) && table (p .head) .message (p .message)
 
 -- bytes 0-2 "HSL"; 3-4 version 1; 5 kind; 6-7 zero; 8-11 first number; 12-15 second number; 16-31 message
 unfoldable pub packetBytes : Packet → List ℕ
-packetBytes p = frame 0x4C (kindOf (p .head)) ++ (bytesOf 4 (firstOf (p .head)) ++ (bytesOf 4 (secondOf (p .head)) ++ p .message))
+packetBytes p = frame 0x4C 1 (kindOf (p .head)) ++ (bytesOf 4 (firstOf (p .head)) ++ (bytesOf 4 (secondOf (p .head)) ++ p .message))
 
 -- the heads that two numbers can make, one of each kind
 abbrev pub heads : ℕ → ℕ → List Head
@@ -90,7 +90,7 @@ carries (Is h) m = table h .message m
 
 -- the first refusal of a read, or 0
 unfoldable pub readRefusal : List ℕ → ℕ
-readRefusal s = first (readRefusals 32 0x4C s (carries (headAt s) (drop 16 s)))
+readRefusal s = first (readRefusals 32 0x4C 1 s (carries (headAt s) (drop 16 s)))
 
 abbrev pub refused : ℕ → ReadPacket
 refused n = record { head = Refused n; message = replicate 16 0 }

@@ -19,6 +19,12 @@ pub fn from_big_endian(bytes: [u8; 4]) -> u32
     wide(bytes[0]) * 0x1000000 + wide(bytes[1]) * 0x10000 + wide(bytes[2]) * 0x100 + wide(bytes[3])
 }
 
+pub fn from_big_endian_16(bytes: [u8; 2]) -> u16
+    ensures { λ r. ⌜ r ≡ value bytes ⌝ }
+{
+    (wide(bytes[0]) * 0x100 + wide(bytes[1])) as u16
+}
+
 // The number in the four bytes from `at` on.
 pub(crate) fn number_at(s: &[u8], at: usize) -> u32
     requires { ⌜ at + 4 ≤ length (now s) ⌝ }
@@ -38,10 +44,16 @@ pub fn big_endian(n: u32) -> [u8; 4]
     ]
 }
 
+pub fn big_endian_16(n: u16) -> [u8; 2]
+    ensures { λ r. ⌜ r ≡ bytesOf 2 n ⌝ }
+{
+    [(n / 0x100) as u8, (n % 0x100) as u8]
+}
+
 // The first refusal that bytes 0 to 7 give, but for byte 5, or 0.
-pub(crate) fn frame_refusal(s: &[u8], letter: u8) -> u8
+pub(crate) fn frame_refusal(s: &[u8], letter: u8, version: u8) -> u8
     requires { ⌜ 8 ≤ length (now s) ⌝ }
-    ensures { λ r. ⌜ r ≡ first (frameRefusals letter (now (s .entry))) ⌝ }
+    ensures { λ r. ⌜ r ≡ first (frameRefusals letter version (now (s .entry))) ⌝ }
 {
     if s[0] != b'H' {
         return 13;
@@ -55,7 +67,7 @@ pub(crate) fn frame_refusal(s: &[u8], letter: u8) -> u8
     if s[3] != 0 {
         return 14;
     }
-    if s[4] != 1 {
+    if s[4] != version {
         return 14;
     }
     if s[6] != 0 {

@@ -4,7 +4,9 @@ mod packets;
 mod records;
 
 pub use frame::big_endian;
+pub use frame::big_endian_16;
 pub use frame::from_big_endian;
+pub use frame::from_big_endian_16;
 pub use packets::Fields;
 pub use packets::direction_of;
 pub use packets::fields_of;
@@ -12,10 +14,13 @@ pub use packets::head_of;
 pub use packets::read_head;
 pub use packets::read_packet;
 pub use packets::write_packet;
+pub use records::aged;
+pub use records::block_of;
 pub use records::end_of;
-pub use records::last_used_of;
 pub use records::number_of;
 pub use records::read_record;
+pub use records::record_of;
+pub use records::renewed;
 pub use records::write_record;
 
 // A console's request. A J is only ever compared with a J.
@@ -55,13 +60,15 @@ pub struct ReadPacket {
     pub message: [u8; 16],
 }
 
-// What an end's number record holds: 0 where no number was used yet.
-pub enum LastUsed {
-    Console(J),
-    Controller(I),
+// An end's number record: of version 1 with last used, of version 2 with reserved and block. A number is 0 where none was used yet.
+pub enum NumberRecord {
+    ConsoleOld(J),
+    ControllerOld(I),
+    Console(J, u16),
+    Controller(I, u16),
 }
 
 pub enum ReadRecord {
     Refused(u8),
-    Is(LastUsed),
+    Is(NumberRecord),
 }

@@ -156,7 +156,7 @@ pub fn read_head(bytes: &[u8]) -> ReadHead
     if bytes.len() != 32 {
         return ReadHead::Refused(12);
     }
-    let n = frame_refusal(bytes, b'L');
+    let n = frame_refusal(bytes, b'L', 1);
     if n != 0 {
         return ReadHead::Refused(n);
     }
@@ -208,7 +208,7 @@ fn packet_fits(p: Packet) -> bool
 
 // Bytes 0 to 15 of a packet.
 fn head_bytes(h: Head) -> [u8; 16]
-    ensures { λ r. ⌜ r ≡ frame 0x4C (kindOf h) ++ (bytesOf 4 (firstOf h) ++ bytesOf 4 (secondOf h)) ⌝ }
+    ensures { λ r. ⌜ r ≡ frame 0x4C 1 (kindOf h) ++ (bytesOf 4 (firstOf h) ++ bytesOf 4 (secondOf h)) ⌝ }
 {
     let f = fields_of(h);
     let a = big_endian(f.first);

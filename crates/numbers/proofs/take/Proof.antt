@@ -10,4 +10,5 @@ take-spec =
     (tie.spec
     (λ c. search counting)
     (λ c. search (more-fits, needs))
-    (λ c. search counting))
+    (λ c κs. search needs)
+    (λ c. search (counting, needs)))

@@ -25,7 +25,7 @@ step-spec =
     (λ c. search alone-none)  -- returns
     (λ c. search alone-ill)  -- returns-2
     (λ c. search needs)  -- same-length
-    (λ c. search alone-asked)  -- returns-3
+    (λ c. search (alone-asked, c .before .before .before .before .before .before .before .before .before .before .before .before .before .before .find .ensures))  -- returns-3
     (λ c. search alone-controller)  -- returns-4
     (λ c. search alone-neither)  -- returns-5
     )

@@ -9,9 +9,10 @@ pub nooseless-console-downed-spec : {M : Type 1} → statement M
 nooseless-console-downed-spec =
     tie.close
     (tie.spec
-    (λ c κs. search needs)  -- last-in-requires
+    (λ c κs. search needs)  -- start-in-requires
     (λ c. (search starts, search startings))  -- returns
     (λ c. (search starts, search startings))  -- returns-2
+    (λ c κs. search needs)  -- kept-requires
     (λ c κs. search needs)  -- downed-console-requires
     (λ c κs. search needs)  -- put-console-requires
     (λ c. search needs)  -- same-length

@@ -9,9 +9,10 @@ pub nooseless-controller-downed-spec : {M : Type 1} → statement M
 nooseless-controller-downed-spec =
     tie.close
     (tie.spec
-    (λ c κs. search needs)  -- last-in-requires
+    (λ c κs. search needs)  -- start-in-requires
     (λ c. (search starts, search startings))  -- returns
     (λ c. (search starts, search startings))  -- returns-2
+    (λ c κs. search needs)  -- kept-requires
     (λ c κs. search needs)  -- downed-controller-requires
     (λ c κs. search needs)  -- put-controller-requires
     (λ c. search needs)  -- same-length

@@ -13,6 +13,7 @@ nooseless-read-record-spec =
     (λ c. search needs)  -- enum-known-read-2
     (λ c κs. search needs)  -- end-of-requires
     (λ c κs. search needs)  -- number-of-requires
+    (λ c κs. search needs)  -- block-of-requires
     (λ c. search record-reads)  -- returns
     (λ c. search record-reads)  -- returns-2
     )

@@ -8,8 +8,9 @@ pub nooseless-write-record-spec : {M : Type 1} → statement M
 nooseless-write-record-spec =
     tie.close
     (tie.spec
-    (λ c κs. search needs)  -- last-used-of-requires
+    (λ c κs. search needs)  -- record-of-requires
     (λ c. search needs)  -- enum-told
+    (λ c κs. search needs)  -- length-with-requires
     (λ c. search needs)  -- enum-known-made
     (λ c κs. search needs)  -- write-record-requires
     (λ c. (search end-refusals, search end-puts))  -- returns

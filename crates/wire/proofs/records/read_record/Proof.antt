@@ -1,6 +1,6 @@
--- `wire::records::read_record` meets its contract: a law for each `return`.
+-- `wire::records::read_record` meets its contract: its length says by which version it is read.
 use borrow.Author.Needs.{needs}
-use Rattle.wire.proofs.Reading.{record-reads}
+use Rattle.wire.proofs.RecordReading.{record-12}
 use Rattle.wire.proofs.records.read_record.Statement.{statement}
 use Rattle.wire.proofs.records.read_record.Tie as tie
 
@@ -8,10 +8,8 @@ pub read-record-spec : {M : Type 1} → statement M
 read-record-spec =
     tie.close
     (tie.spec
-    (λ c. search record-reads)
     (λ c κs. search needs)
-    (λ c. search record-reads)
     (λ c. search needs)
     (λ c κs. search needs)
-    (λ c κs. search needs)
-    (λ c. search record-reads))
+    (λ c. search needs)
+    (λ c. search record-12))

@@ -234,16 +234,17 @@ module _ (b : Modes) (o : Offered) (out back : List ℕ) (line : Line) (a : Acti
       pub console-room : not room ≡ false → roomFor (sent .any) (b .sent) (a .copies) ≡ true
       console-room n = sym r ∙ not-false room n
 
-      pub console-done : {ret cnt : ℕ} {out′ back′ : List ℕ} → not room ≡ false
+      pub console-done : {x : Told} {ret cnt : ℕ} {out′ back′ : List ℕ} → not room ≡ false
           → (ret ≡ countTaken (line .place) (b .returned) (a .place)) × (back′ ≡ tableTaken (line .place) back (b .returned) (a .place))
           → (cnt ≡ countSent (sent .any) (b .sent) (a .copies)) × (out′ ≡ tableSent sent out (b .sent) (a .copies))
-          → toldAs (record { report = dd .report; message = spaces; console = dd .numbers; controller = Stay; after = record { console = record { mode = dd .mode; up = dd .up; held = h }; controller = b .controller; sent = cnt; returned = ret } }) o out′ back′
-          ≡ modesStep b o out back line a
+          → x ≡ record { report = dd .report; message = spaces; console = dd .numbers; controller = Stay; after = record { console = record { mode = dd .mode; up = dd .up; held = h }; controller = b .controller; sent = cnt; returned = ret } }
+          → toldAs x o out′ back′ ≡ modesStep b o out back line a
       unfolding toldAs modesStep shownOf modesMoved
-      console-done n t u =
+      console-done {out′ = out′} {back′ = back′} n t u f =
           let now-out = sent-holds to-controller-coded (a .copies) (d .sent) (out-held b out back k) sends-ok sent-is (console-room n) (u .0) (u .1) in
           let now-back = taken-holds to-console-coded (line .place) (a .place) (back-held b out back k) (t .0) (t .1) in
-          (λ i.
+          ap (λ (y : Told). toldAs y o out′ back′) f
+          ∙ (λ i.
           record {
             report = done-report i;
             message = done-message i;

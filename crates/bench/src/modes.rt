@@ -96,6 +96,38 @@ fn keeps(uses: bool, message: [u8; 16], held: [u8; 16]) -> [u8; 16]
     if uses { message } else { held }
 }
 
+// What a console decided, with the message that it holds then and the counts of the two tables.
+fn console_told(
+    b: Modes,
+    d: ends_console::decides::Decided,
+    held: [u8; 16],
+    sent: usize,
+    returned: usize,
+) -> Told
+    ensures { λ r. ⌜ r ≡ record { report = d .report; message = spaces; console = d .numbers; controller = Move.Stay; after = record { console = record { mode = d .mode; up = d .up; held = held }; controller = b .controller; sent = sent; returned = returned } } ⌝ }
+{
+    let report = d.report;
+    let numbers = d.numbers;
+    let mode = d.mode;
+    let controller = b.controller;
+    Told {
+        report,
+        message: [0x20; 16],
+        console: numbers,
+        controller: Move::Stay,
+        after: Modes {
+            sent,
+            returned,
+            console: ConsoleSide {
+                mode,
+                up: d.up,
+                held,
+            },
+            controller,
+        },
+    }
+}
+
 // What a console decided that does not refuse, unless there is no room for what it sends. `next`, `came` and `ask` are there for the promise alone.
 fn console_moves(
     b: Modes,
@@ -123,26 +155,7 @@ fn console_moves(
     }
     let returned = take(line.place, back, b.returned, a.place);
     let count = send(sent, a.copies, out, b.sent);
-    let report = d.report;
-    let numbers = d.numbers;
-    let mode = d.mode;
-    let controller = b.controller;
-    Told {
-        report,
-        message: [0x20; 16],
-        console: numbers,
-        controller: Move::Stay,
-        after: Modes {
-            sent: count,
-            returned,
-            console: ConsoleSide {
-                mode,
-                up: d.up,
-                held,
-            },
-            controller,
-        },
-    }
+    console_told(b, d, held, count, returned)
 }
 
 pub(crate) fn console_asked(

@@ -8,7 +8,7 @@ use borrow.Author.Tests.{eqb-true, eqb-false, ne-eqb, leb-true, le-leb, lt-leb}
 use native.Mathlib.Omega.{arith}
 use Rattle.ground.specs.Block.{isBlock, largest-block}
 use Rattle.ground.specs.Choice.{if_then_else_}
-use Rattle.ground.proofs.Tests.{by-test, and-left, and-right}
+use Rattle.ground.proofs.Tests.{by-test, and-left, and-right, and-both}
 use Rattle.rules.specs.Supply.{Lawful, largest, next-counted, counted, Blocks, lesser, greater, grown, blocks, Numbers, numbering, stored, fresh-numbers}
 
 next-is : (last n : ℕ) → next-counted last ≡ some n → (n ≡ suc last) × (last ≡ largest → ⊥)
@@ -19,9 +19,6 @@ next-is last n e = test (eqb last largest) refl e
     test true q e = absurd (Option·none-ne-some n e)
     test false q e = (sym (Option·some-injective (suc last) n e), eqb-false last largest q)
 
-both : (a b : Bool) → a ≡ true → b ≡ true → (a && b) ≡ true
-both a b p q = rw (p, q)
-
 pub counted-lawful : Lawful ℕ counted
 counted-lawful =
     record {
@@ -30,7 +27,7 @@ counted-lawful =
       take-keeps = λ s n u. le-leb n (suc s) (omega (arith, leb-true n s u));
       back-keeps = λ s n u. u;
       next-number =
-          λ s n h e. both (leb 1 n) (leb n largest) (le-leb 1 n (omega (arith, next-is s n e .0)))
+          λ s n h e. and-both (leb 1 n) (leb n largest) (le-leb 1 n (omega (arith, next-is s n e .0)))
           (le-leb n largest (omega (arith, next-is s n e, leb-true s largest h)));
       take-sound = λ s n h e. le-leb (suc s) largest (omega (arith, next-is s n e .1, leb-true s largest h));
       back-sound = λ s h. h;

@@ -15,6 +15,7 @@ console-moves-spec =
     (λ c. search console-full)
     (λ c κs. search needs)
     (λ c κs. search console-room)
+    (λ c κs. search needs)
     (λ c. search needs)
     (λ c. search needs)
-    (λ c. search console-done))
+    (λ c. search (console-done, c .before .before .before .before .before .before .before .before .before .before .before .before .keeps .ensures, c .before .before .before .before .before .before .before .before .before .before .before .before .before .before .before .before .before .before .pre)))

@@ -66,12 +66,33 @@ int log_open(const char *path) {
     return log;
 }
 
+#define LINE 64 /* no line is longer */
+
 void log_line(int log, uint64_t when, const char *word, const uint8_t *cells) {
-    char line[64];
+    char line[LINE];
     int n = snprintf(line, sizeof line, "%llu %s %.16s\n", (unsigned long long)when, word,
                      cells ? (const char *)cells : "-");
     if (n < 0 || (size_t)n >= sizeof line) fail("log line");
     if (write(log, line, (size_t)n) != n) fail("log");
+}
+
+int log_last(const char *path, const char *word, const char *other, uint8_t cells[NOOSELESS_MESSAGE_LEN]) {
+    char tail[LINE];
+    int log = open(path, O_RDONLY);
+    if (log < 0) fail(path);
+    off_t end = lseek(log, 0, SEEK_END);
+    ssize_t n = end < 0 ? -1 : pread(log, tail, LINE, end < LINE ? 0 : end - LINE);
+    close(log);
+    if (n < 0) fail(path);
+    if (n == 0) return 0;
+    tail[n - 1] = 0;
+    char *before = strrchr(tail, '\n'), *has = strchr(before ? before : tail, ' ');
+    char *rest = has ? strchr(has + 1, ' ') : NULL;
+    if (!rest) fail(path);
+    *rest = 0;
+    if (strlen(rest + 1) != NOOSELESS_MESSAGE_LEN || (strcmp(has + 1, word) != 0 && strcmp(has + 1, other) != 0)) return 0;
+    memcpy(cells, rest + 1, NOOSELESS_MESSAGE_LEN);
+    return 1;
 }
 
 static struct sockaddr_un named(const char *name) {

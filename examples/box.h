@@ -23,6 +23,8 @@ void record_keep(const char *path, const uint8_t record[NOOSELESS_RECORD_LEN], i
 /* A log whose lines are appended by one write each, so that a cut leaves whole lines. */
 int log_open(const char *path);
 void log_line(int log, uint64_t when, const char *word, const uint8_t *cells);
+/* The cells of a log's last line, where its word is one of these two; then it is true. */
+int log_last(const char *path, const char *word, const char *other, uint8_t cells[NOOSELESS_MESSAGE_LEN]);
 
 /* Datagram sockets in the working folder. What is sent to a socket that nobody holds is lost, as on the air. */
 int radio_socket(const char *own);

@@ -1,7 +1,11 @@
 /*
  * A console box around the console's loop: takes orders of 16 cells and a newline from standard input, one at a time, and writes its rows to
- * rows.log. Its number record is the file console.record, each keeping of which is a line in keeps.log; what it sends goes to the socket
- * from-console, what it hears comes to the socket console.
+ * rows.log: PUT, OK, LOST, and BACK where it comes back, with the order that has no answer yet. A LOST with such a BACK before it is that of a
+ * console which restarted. Its number record is the file console.record, each keeping of which is a line in keeps.log; what it sends goes to
+ * the socket from-console, what it hears comes to the socket console.
+ *
+ * A mistake that a rehearsal has to find: built with STALE it keeps an OK through a power cut, and shows it for the order that it then finds
+ * without an answer.
  */
 #include <errno.h>
 #include <fcntl.h>
@@ -32,14 +36,35 @@ int console_order(uint8_t order[NOOSELESS_MESSAGE_LEN]) {
     return 1;
 }
 
+/* BACK names the order again, so that the last row alone says whether one waits. */
+int console_unanswered(uint8_t order[NOOSELESS_MESSAGE_LEN]) {
+    int waits = log_last("rows.log", "PUT", "BACK", order);
+    log_line(rows, clock_now(), "BACK", waits ? order : NULL);
+    return waits;
+}
+
+#if defined STALE
+static const char *word_of(uint8_t told) {
+    if (given == 0 && access("answered-ok", F_OK) == 0) return "OK"; /* no order came since the start */
+    if (told != NOOSELESS_ANSWER_OK) {
+        unlink("answered-ok");
+        return "LOST";
+    }
+    close(log_open("answered-ok"));
+    return "OK";
+}
+#else
+static const char *word_of(uint8_t told) { return told == NOOSELESS_ANSWER_OK ? "OK" : "LOST"; }
+#endif
+
 void console_show(uint8_t told, const uint8_t order[NOOSELESS_MESSAGE_LEN]) {
     switch (told) {
     case NOOSELESS_NOTHING:
         log_line(rows, given, "PUT", order);
         next = 0;
         return;
-    case NOOSELESS_ANSWER_OK: log_line(rows, clock_now(), "OK", order); return;
-    case NOOSELESS_ANSWER_LOST: log_line(rows, clock_now(), "LOST", order); return;
+    case NOOSELESS_ANSWER_OK:
+    case NOOSELESS_ANSWER_LOST: log_line(rows, clock_now(), word_of(told), order); return;
     default: fail("an order that can't be put");
     }
 }

@@ -1,7 +1,8 @@
 /*
  * Judges a rehearsal by what the boxes wrote down: the console's rows.log, the controller's doses.log, keeps.log of both, and cuts.log.
  *
- * judge CUTS ORDERS OKS LOSTS: at least so many of each, or the rehearsal says nothing.
+ * judge CUTS ORDERS OKS LOSTS: at least so many of each, of the lost so many with and so many without a restart of the console since the put,
+ * or the rehearsal says nothing.
  * Ends with 0, with 1 if demand 3 is broken, with 2 if a log can't be read, with 3 if too little happened, with 4 if the controller met
  * a number that it had not given: its record went back, though no order has come to harm yet. With 5 if the boxes kept their records more
  * often than blocks of 64 ask for while no power was cut.
@@ -14,6 +15,7 @@
 
 struct order {
     uint64_t put, ok, lost, dosed; /* when, 0 for never; the first dose */
+    int restarted; /* the console, between put and answer */
 };
 
 struct line {
@@ -26,7 +28,8 @@ static struct order *orders;
 static size_t known;
 static uint64_t *backs;
 static size_t back_count;
-static unsigned long put, oks, losts, doses, cuts, twice, astray, unasked, early_ok, after_lost, no_reason, keeping, alarms, old_starts;
+static unsigned long put, oks, losts, doses, cuts, twice, astray, unasked, early_ok, kept_ok, after_lost, no_reason, keeping, alarms, old_starts;
+static unsigned long unsure, dosed_after; /* lost after a restart of the console; delivered after that */
 static unsigned long writes, quiet_put, quiet_writes; /* of records; before the first cut */
 static uint64_t first_cut = UINT64_MAX;
 
@@ -79,30 +82,43 @@ static FILE *opened(const char *path) {
     return f;
 }
 
+/* The row of an answer is that of the order put last, if it had none yet. */
+static void read_answer(const struct line *l, size_t n, size_t waiting, int restarted) {
+    struct order *o = order(n);
+    if (n == 0 || n != waiting) unasked++;
+    o->restarted = restarted;
+    if (strcmp(l->word, "OK") == 0) {
+        o->ok = l->when;
+        oks++;
+        kept_ok += (unsigned long)restarted;
+    } else if (strcmp(l->word, "LOST") == 0) {
+        o->lost = l->when;
+        losts++;
+        unsure += (unsigned long)restarted;
+    } else {
+        unreadable("rows.log");
+    }
+}
+
 static void read_rows(void) {
     FILE *f = opened("rows.log");
     struct line l;
-    size_t held = 0, last = 0;
+    size_t waiting = 0, last = 0;
+    int restarted = 0; /* since the last put */
     while (next_line(f, &l, "rows.log")) {
         size_t n = number_of(l.cells);
-        if (strcmp(l.word, "PUT") == 0) {
+        if (strcmp(l.word, "BACK") == 0) {
+            restarted = 1;
+        } else if (strcmp(l.word, "PUT") == 0) {
             if (n <= last) unreadable("rows.log: orders in their order");
             order(n)->put = l.when;
-            held = last = n;
+            waiting = last = n;
+            restarted = 0;
             put++;
             quiet_put += l.when < first_cut;
-            continue;
-        }
-        if (n == 0 || n != held) unasked++;
-        held = 0;
-        if (strcmp(l.word, "OK") == 0) {
-            order(n)->ok = l.when;
-            oks++;
-        } else if (strcmp(l.word, "LOST") == 0) {
-            order(n)->lost = l.when;
-            losts++;
         } else {
-            unreadable("rows.log");
+            read_answer(&l, n, waiting, restarted);
+            waiting = 0;
         }
     }
     fclose(f);
@@ -133,7 +149,9 @@ static void read_doses(void) {
         if (n == 0 || o->put == 0 || l.when < o->put) unasked++;
         if (o->dosed) twice++;
         if (n < latest) astray++;
-        if (o->lost && l.when > o->lost) after_lost++;
+        int late = o->lost && l.when > o->lost;
+        if (late && o->restarted) dosed_after++;
+        if (late && !o->restarted) after_lost++;
         if (!o->dosed) o->dosed = l.when;
         if (n > latest) latest = n;
     }
@@ -150,7 +168,7 @@ static void judge_answers(void) {
     for (size_t n = 0; n < known; n++) {
         const struct order *o = &orders[n];
         if (o->ok && (!o->dosed || o->dosed > o->ok)) early_ok++;
-        if (o->lost && !came_back(o->put, o->lost)) no_reason++;
+        if (o->lost && !o->restarted && !came_back(o->put, o->lost)) no_reason++;
     }
 }
 
@@ -182,6 +200,19 @@ static void print_writes(unsigned long in_cuts, unsigned long in_orders, unsigne
     printf("\n");
 }
 
+static void print_counts(void) {
+    printf("%lu cuts, %lu of them between a step and its keeping; %lu orders, %lu doses, %lu OK, %lu lost, %lu without an answer\n", cuts,
+           keeping, put, doses, oks, losts, put - oks - losts);
+    printf("%lu of the lost after a restart of the console, %lu of these delivered afterwards\n", unsure, dosed_after);
+    printf("delivered twice %lu, out of order %lu, OK without delivery %lu, OK after a restart of the console %lu, delivered after lost %lu\n",
+           twice, astray, early_ok, kept_ok, after_lost);
+    printf("delivered or answered unasked %lu, lost with no restart since the put %lu\n", unasked, no_reason);
+    printf("numbers that the controller had not given %lu\n", alarms);
+    print_writes(0, quiet_put, quiet_writes);
+    print_writes(cuts, put - quiet_put, writes - quiet_writes);
+    printf("records of version 1 that a start found %lu\n", old_starts);
+}
+
 int main(int argc, char **argv) {
     if (argc != 5) {
         fprintf(stderr, "usage: judge CUTS ORDERS OKS LOSTS\n");
@@ -192,21 +223,13 @@ int main(int argc, char **argv) {
     read_rows();
     read_doses();
     judge_answers();
-    printf("%lu cuts, %lu of them between a step and its keeping; %lu orders, %lu doses, %lu OK, %lu lost, %lu unanswered\n", cuts,
-           keeping, put, doses, oks, losts, put - oks - losts);
-    printf("delivered twice %lu, out of order %lu, OK without delivery %lu, delivered after lost %lu\n", twice, astray,
-           early_ok, after_lost);
-    printf("delivered or answered unasked %lu, lost with no restart of the controller since the put %lu\n", unasked,
-           no_reason);
-    printf("numbers that the controller had not given %lu\n", alarms);
-    print_writes(0, quiet_put, quiet_writes);
-    print_writes(cuts, put - quiet_put, writes - quiet_writes);
-    printf("records of version 1 that a start found %lu\n", old_starts);
-    if (twice + astray + early_ok + after_lost + unasked + no_reason > 0) return 1;
+    print_counts();
+    if (twice + astray + early_ok + kept_ok + after_lost + unasked + no_reason > 0) return 1;
     if (alarms > 0) return 4;
     if (quiet_writes > 4 + quiet_put / 16) return 5;
+    unsigned long wanted = strtoul(argv[4], NULL, 10);
     if (cuts < strtoul(argv[1], NULL, 10) || put < strtoul(argv[2], NULL, 10) || oks < strtoul(argv[3], NULL, 10) ||
-        losts < strtoul(argv[4], NULL, 10)) {
+        losts - unsure < wanted || unsure < wanted) {
         printf("too little happened for this to say anything\n");
         return 3;
     }

@@ -1,13 +1,14 @@
 #!/bin/sh
 # A rehearsal with real power cuts: two boxes and a radio as processes, kill -9 at moments by chance, and demand 3 judged by what the boxes
-# wrote down. rehearse.sh [--broken | --late] [CUTS [SEED]]; 10,000 cuts are the long one. The seed decides every choice, not the machine's
-# timing. With --broken the controller keeps no number record, with --late it keeps it after the packet has left.
+# wrote down. rehearse.sh [--broken | --late | --stale] [CUTS [SEED]]; 10,000 cuts are the long one. The seed decides every choice, not the
+# machine's timing. With --broken the controller keeps no number record, with --late it keeps it after the packet has left; with --stale the
+# console keeps an OK through a power cut and shows it for the next order.
 # Ends with 0; 1 if demand 3 is broken; 2 if it can't be run; 3 if too little happened; 4 if the controller met numbers that it had not given;
 # 5 if number records were written more often than their blocks ask for.
 set -eu
 broken=
 case ${1:-} in
---broken | --late)
+--broken | --late | --stale)
     broken=$1
     shift
     ;;
@@ -16,7 +17,7 @@ cuts=${1:-300}
 seed=${2:-1}
 case $cuts$seed in
 *[!0-9]*)
-    echo "usage: rehearse.sh [--broken | --late] [CUTS [SEED]]" >&2
+    echo "usage: rehearse.sh [--broken | --late | --stale] [CUTS [SEED]]" >&2
     exit 2
     ;;
 esac

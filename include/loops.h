@@ -15,8 +15,11 @@ size_t console_load(uint8_t record[NOOSELESS_RECORD_LEN]);
 void console_keep(const uint8_t record[NOOSELESS_RECORD_LEN]);
 /* Gets the next order, where somebody gave one; then it is true. */
 int console_order(uint8_t order[NOOSELESS_MESSAGE_LEN]);
-/* Shows the row of an order: NOOSELESS_NOTHING, it is put; NOOSELESS_ANSWER_OK; NOOSELESS_ANSWER_LOST; or why it could not be put. */
+/* Shows the row of an order: NOOSELESS_NOTHING, it is put; NOOSELESS_ANSWER_OK; NOOSELESS_ANSWER_LOST; or why it could not be put. A lost
+ * that console_start shows is that of a console which restarted, and the row says so. */
 void console_show(uint8_t told, const uint8_t order[NOOSELESS_MESSAGE_LEN]);
+/* At power-on: gets the order of the last row, where no answer was shown for it; then it is true. Never so where rows don't outlive a cut. */
+int console_unanswered(uint8_t order[NOOSELESS_MESSAGE_LEN]);
 /* Gets the bytes that came in, at most `room`, and returns how many; -1 where none came. */
 int console_hear(uint8_t *bytes, int room);
 /* Lets a packet go out. */

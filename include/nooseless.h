@@ -34,9 +34,10 @@ extern "C" {
 
 /* ---- Version: it changes with what an entry takes, gives or means. A box that starts can see that header and archive agree ---- */
 
-#define NOOSELESS_VERSION 2
+#define NOOSELESS_VERSION 3
 
-/* The NOOSELESS_VERSION of the archive. */
+/* The NOOSELESS_VERSION of the archive. From 2 to 3: S tells no answer any more, A reads it, and a console's state has the ack. Packets
+ * and number records are the same, so that the boxes of a link need not change together. */
 uint32_t nooseless_version(void);
 
 /* ---- Lengths in bytes ---- */
@@ -45,9 +46,9 @@ uint32_t nooseless_version(void);
 #define NOOSELESS_PACKET_LEN 32
 #define NOOSELESS_OLD_RECORD_LEN 12 /* a number record of version 1 */
 #define NOOSELESS_RECORD_LEN 16     /* of version 2 */
-#define NOOSELESS_CONSOLE_STATE_LEN 36
+#define NOOSELESS_CONSOLE_STATE_LEN 37
 #define NOOSELESS_CONTROLLER_STATE_LEN 23
-#define NOOSELESS_BENCH_STATE_LEN 61
+#define NOOSELESS_BENCH_STATE_LEN 62
 #define NOOSELESS_TABLE_LEN 2048
 #define NOOSELESS_LIST_RECORD_LEN 21
 #define NOOSELESS_LINE_LEN 27
@@ -69,9 +70,10 @@ enum nooseless_letter {
     NOOSELESS_PUT = 'P',           /* idle: hold the order in `message`, with a new number. It is not delivered yet */
     NOOSELESS_SEND_NEEDI = 'Q',    /* on a timer in needI: ask for a permission */
     NOOSELESS_SEND_DATA = 'D',     /* on a timer in send: send the order */
-    NOOSELESS_CONSOLE_TAKE = 'S',  /* bytes came in: take them */
+    NOOSELESS_CONSOLE_TAKE = 'S',  /* bytes came in: take them. An answer is stored, and not told yet */
     NOOSELESS_CONSOLE_DOWN = 'C',  /* go down, keeping all; a power cut needs no letter */
-    NOOSELESS_CONSOLE_BACK = 'V',  /* down: come back, idle; the order that was held is never answered */
+    NOOSELESS_CONSOLE_BACK = 'V',  /* down: come back, idle; the order that was held is forgotten, its answer is lost */
+    NOOSELESS_READ_ANSWER = 'A',   /* idle: tell what became of the last order, once: the next reading is lost */
     /* the controller's */
     NOOSELESS_SEND_OFFER = 'O',    /* on a timer in accept: offer the permission */
     NOOSELESS_SEND_OK = 'K',       /* on a timer in ack: say again that the order was delivered */
@@ -95,10 +97,10 @@ enum nooseless_refusal {
     NOOSELESS_ILL_FORMED = 2,     /* a state or a table not well formed, or of another length - the state was damaged: stop, and start
                                      from the kept record as after power loss */
     NOOSELESS_NO_PLACE = 3,       /* place not below the count */
-    NOOSELESS_IS_DOWN = 4,        /* P Q D S with the console down, O K R with the controller down - V or Y first */
+    NOOSELESS_IS_DOWN = 4,        /* P Q D S A with the console down, O K R with the controller down - V or Y first */
     NOOSELESS_IS_UP = 5,          /* V or Y with that end up - nothing to do */
-    NOOSELESS_OTHER_MODE = 6,     /* P with a message held - wait for its answer. Q in another mode - try D. O - try K. D or K after
-                                     that - idle, nothing to repeat */
+    NOOSELESS_OTHER_MODE = 6,     /* P with a message held - wait for its answer. A with a message held - there is none yet. Q in
+                                     another mode - try D. O - try K. D or K after that - idle, nothing to repeat */
     NOOSELESS_NEVER_GIVEN = 7,    /* R of data or done whose I is above the controller's last used - drop it and call a person: it is of
                                      another link, or this controller's record is older than numbers that it gave */
     NOOSELESS_SPENT = 8,          /* P with J numbers spent - this console puts no more orders, ever; call a person. (A controller whose
@@ -159,12 +161,12 @@ uint8_t nooseless_carry_record(const uint8_t *from, size_t from_len, uint8_t *to
  * length, a flag that is neither 0 nor 1, a block outside 1 to 1,024, last used above reserved, or fields that contradict each other
  * are NOOSELESS_ILL_FORMED.
  *
- *   console, 36 bytes:    0-3 last used J; 4-7 reserved; 8-9 block; 10-13 j; 14-17 last; 18 held; 19 up;
- *                         20-35 message (16 spaces where none is held)
+ *   console, 37 bytes:    0-3 last used J; 4-7 reserved; 8-9 block; 10-13 j; 14-17 last; 18 held; 19 up; 20 ack (1 OK, 0 lost);
+ *                         21-36 message (16 spaces where none is held)
  *   controller, 23 bytes: 0-3 last used I; 4-7 reserved; 8-9 block; 10-13 j; 14-17 i; 18-21 last; 22 up
  *
  * Numbers are big-endian, 0 means none. Of all this only reserved and block have to survive a power cut: they are the end's number
- * record.
+ * record. The ack is what A will tell; either value goes with any other fields.
  *
  * Blocks: the next number is last used plus one; at 4,294,967,295 they are spent. Where one is needed and last used is reserved,
  * reserved first grows by the block, at most to 4,294,967,295; that alone changes the record, and the step tells NOOSELESS_KEEP. The
@@ -177,11 +179,31 @@ uint8_t nooseless_carry_record(const uint8_t *from, size_t from_len, uint8_t *to
  *
  * THE RULE that a box has to keep, console and controller alike. After a step that is no refusal:
  *   1. where it told NOOSELESS_KEEP, the end's number record (.._record) is kept, so that a power cut can't take it back;
- *   2. then its report is shown: the console's row (put, OK, lost), the controller's order carried out;
+ *   2. then its report is shown: the console's row (P: put; A: OK or lost), the controller's order carried out;
  *   3. then its reply leaves, where it told NOOSELESS_SENT;
  *   4. then comes the next step of that end.
  * Power may fail at any moment; what follows in this order is then not done. If it fails before 1 is done, nothing of that step was
  * shown or sent. If 4 came before 3, in a timer's interrupt, say, an OK might leave before its order is carried out.
+ *
+ * Answers: S tells none, it stores what came; A reads it. While its last row has no answer, a console asks A after each S, and after V at
+ * power-on. 6 says that the order is still held and has no answer yet; what A tells otherwise is the answer, and is shown. All that comes
+ * before the next P: from then on A speaks of the new order. A reading is used up by being read, and any further A tells lost, of no
+ * order: that is no row. So 2 above holds of A as of every step. Where power fails after A and before the row is shown, the row has no
+ * answer yet, and A reads lost for it after the restart. Which order that was the box knows from the rows that it keeps; a box whose rows
+ * are gone after a power cut has none to answer, and doesn't ask after V.
+ *
+ * What a row says, to the shift lead who reads it:
+ *   OK                            The order was carried out, once.
+ *   lost, the console stayed up   The controller restarted. The order may have been carried out before that, or not; from now on it
+ *                                 won't be. Look at the tank, then put it again if it is needed.
+ *   lost, the console restarted   Nobody knows. The order may have been carried out, it may still be, as a packet of it may be in the
+ *                                 air, or it may never be. Look at the tank, and know that no waiting makes it certain. A later order
+ *                                 that reads OK does: orders are carried out in the order of their puts, so from then on this one
+ *                                 won't be.
+ *   no answer                     None was read: the order is on its way, or nobody asked. It may have been carried out, it may still
+ *                                 be, or it may never be; once at most.
+ * Neither lost says that the order was not carried out. To put it again may double a dose, so the row leaves that to a person. A tells
+ * both by one byte, and the row has to say which it is: the second, where the console came back (V) after the put.
  *
  * At power-on the box loads the record that it kept last, of 12 or 16 bytes: .._downed, then V or Y. With none that can be read (empty,
  * or refused by .._downed) it must never start again from 0: a number that is given twice can be a dose that is given twice. It stops
@@ -206,21 +228,20 @@ uint8_t nooseless_carry_record(const uint8_t *from, size_t from_len, uint8_t *to
  * returns of either end, and junk may come at any time. One thing is presumed: bytes that read as a packet for an end were sent by the
  * other, for which the radio's own error detection has to stand. Then
  *   - an order is delivered at most once, after its put and in the order of the puts, with its own 16 cells;
- *   - an order is answered at most once, and not at all once the console has gone down after its put;
- *   - OK: it was delivered before;
- *   - lost: since the put the controller went down and came back, and the order won't be delivered later.
- * Lost does not say that it was not delivered: it may have been, before the controller went down. To put it again may double a dose,
- * so the row leaves that to a person.
+ *   - an order's answer is the first A after its put and before the next put; any other A tells lost;
+ *   - OK: it was delivered before, and the console has not gone down since the put;
+ *   - lost: since the put the controller went down and came back, or the console did;
+ *   - lost, and the console has not gone down since the put: it won't be delivered later.
  */
 
-/* Up and idle, with any last used, reserved the same, block 64; 0 only for a box that never ran. Refusals: ILL_FORMED, for a length
- * alone. */
+/* Up and idle, with any last used, reserved the same, block 64, the console's ack lost; 0 only for a box that never ran. Refusals:
+ * ILL_FORMED, for a length alone. */
 uint8_t nooseless_console_fresh(uint8_t *state, size_t state_len, uint32_t last_used);
 uint8_t nooseless_controller_fresh(uint8_t *state, size_t state_len, uint32_t last_used);
 
 /* After power loss: down and idle, last used and reserved both the number of the end's own number record, of either version; its block,
- * 64 from version 1. Refusals: ILL_FORMED, for a length alone, WRONG_LENGTH, WRONG_MARK, WRONG_VERSION, WRONG_FIELD (also for a record
- * of the other end). */
+ * 64 from version 1; the console's ack lost. Refusals: ILL_FORMED, for a length alone, WRONG_LENGTH, WRONG_MARK, WRONG_VERSION,
+ * WRONG_FIELD (also for a record of the other end). */
 uint8_t nooseless_console_downed(uint8_t *state, size_t state_len, const uint8_t *record, size_t record_len);
 uint8_t nooseless_controller_downed(uint8_t *state, size_t state_len, const uint8_t *record, size_t record_len);
 
@@ -232,8 +253,8 @@ uint8_t nooseless_controller_record(const uint8_t *state, size_t state_len, uint
 enum nooseless_told {
     NOOSELESS_NOTHING = 0,     /* nothing to report */
     NOOSELESS_DELIVERED = 64,  /* the controller: carry out the 16 cells in `delivered` */
-    NOOSELESS_ANSWER_OK = 65,  /* the console: the order that was held was delivered */
-    NOOSELESS_ANSWER_LOST = 66 /* the console: the controller went down and came back; the order that was held won't be delivered later */
+    NOOSELESS_ANSWER_OK = 65,  /* the console's A alone: the last order was delivered */
+    NOOSELESS_ANSWER_LOST = 66 /* the console's A alone: since the put an end went down and came back; see "What a row says" */
 };
 #define NOOSELESS_KEEP 0x20 /* the end's number record changed: reserved grew */
 #define NOOSELESS_SENT 0x80 /* a packet was written to the reply buffer */
@@ -244,9 +265,10 @@ static inline int nooseless_is_refusal(uint8_t told) { return 1 <= told && told 
 static inline uint8_t nooseless_report(uint8_t told) { return (uint8_t)(told & ~(NOOSELESS_KEEP | NOOSELESS_SENT)); }
 
 /*
- * The console's P Q D S C V. P alone uses `message`, S alone `packet`, which may have any length. Q D S use the reply buffer, 32 bytes,
- * whose length is looked at even with nothing to send. With every letter `message` must be 16 good bytes, and `packet` and `reply`
- * good for their lengths: a pointer that is not NULL and a length of 0 will do for a letter that does not use them.
+ * The console's P Q D S C V A. P alone uses `message`, S alone `packet`, which may have any length. Q D S use the reply buffer, 32 bytes,
+ * whose length is looked at even with nothing to send. A returns NOOSELESS_ANSWER_OK or NOOSELESS_ANSWER_LOST, and never adds KEEP or
+ * SENT; no other letter returns either. With every letter `message` must be 16 good bytes, and `packet` and `reply` good for their
+ * lengths: a pointer that is not NULL and a length of 0 will do for a letter that does not use them.
  * Refusals: NO_ACTION, ILL_FORMED, WRONG_LENGTH, WRONG_MARK, WRONG_VERSION, WRONG_FIELD, NO_CELL, IS_DOWN, IS_UP, OTHER_MODE, SPENT.
  */
 uint8_t nooseless_console_step(uint8_t *state, size_t state_len, uint8_t letter, const uint8_t message[NOOSELESS_MESSAGE_LEN],
@@ -264,11 +286,11 @@ uint8_t nooseless_controller_step(uint8_t *state, size_t state_len, uint8_t lett
 
 /* ---- A bench: both ends and both channels ----
  *
- * The caller keeps a state of 61 bytes and two tables of 2,048 bytes: `out` holds the packets on their way to the controller, `back`
+ * The caller keeps a state of 62 bytes and two tables of 2,048 bytes: `out` holds the packets on their way to the controller, `back`
  * those on their way to the console. Packets lie one after another, 32 bytes each, from the start of a table; all bytes after them
  * are 0.
  *
- *   state, 61 bytes: 0-35 the console; 36-58 the controller; 59 packets on their way to the controller; 60 to the console
+ *   state, 62 bytes: 0-36 the console; 37-59 the controller; 60 packets on their way to the controller; 61 to the console
  *
  * Bytes are never trusted: what makes an end's state ill formed does so here, and so does a table of another length, a count above
  * 64, below the count bytes that are no packet of that direction, above it a byte that is not 0.
@@ -279,7 +301,7 @@ uint8_t nooseless_bench_fresh(uint8_t *state, size_t state_len, uint8_t *out, si
                               uint32_t console_last_used, uint32_t controller_last_used);
 
 /*
- * One of the thirteen actions: P Q D S C V, O K R X Y, L M. S R L M alone use `place`, Q D S O K R `copies`, P `message`, which must be
+ * One of the fourteen actions: P Q D S C V A, O K R X Y, L M. S R L M alone use `place`, Q D S O K R `copies`, P `message`, which must be
  * 16 good bytes with every letter. Returns what an end's step does, without NOOSELESS_KEEP and NOOSELESS_SENT: a bench is no box;
  * `delivered`, 16 good bytes with every letter, is written with NOOSELESS_DELIVERED and else untouched. Refusals: NO_ACTION,
  * ILL_FORMED, NO_CELL, MANY_COPIES, IS_DOWN, IS_UP, OTHER_MODE, SPENT, NO_PLACE, NEVER_GIVEN, NO_ROOM.
@@ -300,7 +322,7 @@ uint8_t nooseless_bench_show(const uint8_t *state, size_t state_len, const uint8
  *
  * A record is 21 bytes: letter; place, two digits 00 to 63; copies, one digit 0 to 3; 16 message cells; byte 0x0A. Fields that the
  * letter doesn't use are 0 digits and spaces. A line is 27 bytes: record number, four digits; space; the letter, or ? for refusal 1;
- * space; DL, OK, LO, -- or the refusal number; space; the delivered message or 16 spaces; byte 0x0A.
+ * space; DL, -- or the refusal number, for A also OK or LO (lost); space; the delivered message or 16 spaces; byte 0x0A.
  */
 
 #define NOOSELESS_RECORDS_MAX 9999

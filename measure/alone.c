@@ -1,5 +1,5 @@
 /*
- * Calls R of a controller, S or P of a console, proved or of the peer, N times with one state and packet of a case: alone WHO CASE N. The
+ * Calls R of a controller, S, P or A of a console, proved or of the peer, N times with one state and packet of a case: alone WHO CASE N. The
  * peer's answers and bytes are compared with the proved ones first. The instructions of N calls are counted from outside.
  */
 #include <stdio.h>
@@ -30,7 +30,7 @@ static const struct {
     {"R done, acknowledged", 'R', 'k', NOOSELESS_KIND_DONE, 1, 0}, {"S offer, taken", 'S', 'n', NOOSELESS_KIND_OFFER, 1, 1},
     {"S offer, done", 'S', 'i', NOOSELESS_KIND_OFFER, 1, 1},      {"S OK", 'S', 's', NOOSELESS_KIND_OK, 1, 0},
     {"S lost", 'S', 's', NOOSELESS_KIND_LOST, 1, 0},              {"P, within the block", 'P', 'u', NOOSELESS_KIND_OK, 1, 0},
-    {"P, reserved grows", 'P', 'i', NOOSELESS_KIND_OK, 1, 0},
+    {"P, reserved grows", 'P', 'i', NOOSELESS_KIND_OK, 1, 0},     {"A with an answer", 'A', 'u', NOOSELESS_KIND_OK, 1, 0},
 };
 
 static uint8_t console(struct box *b, char letter, uint8_t kind, uint32_t first, uint32_t second) {
@@ -45,7 +45,7 @@ static uint8_t controller(struct box *b, char letter, uint8_t kind, uint32_t fir
                                      sizeof b->reply, b->delivered);
 }
 
-/* i idle, n needI, s send; a accept, k ack; u a number of the block used, and idle again */
+/* i idle, n needI, s send; a accept, k ack; u a number of the block used, and idle again, the console with an answer */
 static void prepare(struct box *b, int which) {
     memset(b, 0, sizeof *b);
     nooseless_console_fresh(b->console, sizeof b->console, 0);
@@ -76,6 +76,7 @@ static uint8_t call(struct box *b, const char *who, char letter) {
     }
     if (*who == 'n') return nobody_r(b->console, sizeof b->console, b->packet, sizeof b->packet, b->reply, sizeof b->reply, NULL);
     if (*who == 'c' && letter == 'P') return peer_p(b->console, sizeof b->console, cells);
+    if (*who == 'c' && letter == 'A') return peer_a(b->console, sizeof b->console);
     if (*who == 'c') return peer_s(b->console, sizeof b->console, b->packet, sizeof b->packet, b->reply, sizeof b->reply);
     return nooseless_console_step(b->console, sizeof b->console, (uint8_t)letter, cells, b->packet, sizeof b->packet, b->reply,
                                   sizeof b->reply);

@@ -17,8 +17,8 @@ struct bench {
     uint8_t state[NOOSELESS_BENCH_STATE_LEN], out[NOOSELESS_TABLE_LEN], back[NOOSELESS_TABLE_LEN], delivered[NOOSELESS_MESSAGE_LEN];
 };
 
-/* i idle, n needI, s send; i idle, a accept, k ack; u idle, a number of the block used. The packet lies at place 0 of the channel that the
- * letter takes from. */
+/* i idle, n needI, s send; i idle, a accept, k ack; u idle, a number of the block used; r idle, with an answer to read. The packet lies at
+ * place 0 of the channel that the letter takes from. */
 static const struct {
     const char *name;
     char letter, console, controller;
@@ -32,13 +32,14 @@ static const struct {
     {"R needI, reserved grows", 'R', 'n', 'i', 0, 0, NOOSELESS_KIND_NEEDI, NOOSELESS_NOTHING},
     {"R data, delivered", 'R', 's', 'a', 0, 1, NOOSELESS_KIND_DATA, NOOSELESS_DELIVERED},
     {"S offer, taken", 'S', 'n', 'a', 0, 0, NOOSELESS_KIND_OFFER, NOOSELESS_NOTHING},
-    {"S OK", 'S', 's', 'k', 0, 1, NOOSELESS_KIND_OK, NOOSELESS_ANSWER_OK},
+    {"S OK", 'S', 's', 'k', 0, 1, NOOSELESS_KIND_OK, NOOSELESS_NOTHING},
     {"L", 'L', 'n', 'i', 0, 0, NOOSELESS_KIND_NEEDI, NOOSELESS_NOTHING},
     {"P refused, 6", 'P', 'n', 'i', 0, 0, 0, NOOSELESS_OTHER_MODE},
     {"R refused, 3", 'R', 'n', 'i', 64, 0, 0, NOOSELESS_NO_PLACE},
     {"R refused, 7", 'R', 's', 'i', 0, 1, NOOSELESS_KIND_DATA, NOOSELESS_NEVER_GIVEN},
     {"Q, two copies", 'Q', 'n', 'i', 0, 2, 0, NOOSELESS_NOTHING},
     {"L refused, 2", 'L', 'n', 'i', 0, 0, NOOSELESS_KIND_NEEDI, NOOSELESS_ILL_FORMED},
+    {"A with an answer", 'A', 'r', 'i', 0, 0, 0, NOOSELESS_ANSWER_OK},
 };
 
 /* Both channels hold so many packets, but one at least where one is taken, and one less than all where one is sent: two copies are 9 then. */
@@ -59,6 +60,7 @@ static void set_ends(uint8_t *s, char console, char controller) {
     uint8_t *d = s + NOOSELESS_CONSOLE_STATE_LEN;
     if (console != 'i') use(s);
     if (controller != 'i') use(d);
+    s[CONSOLE_ACK] = console == 'r';
     if (console == 'n' || console == 's') {
         put_number(s + (console == 'n' ? J : CONSOLE_LAST), 1);
         s[CONSOLE_HELD] = 1;
@@ -93,8 +95,8 @@ static void prepare(struct bench *b, int action, size_t packets) {
     set_ends(b->state, actions[action].console, actions[action].controller);
     fill(b->out, out, to_controller, from_back ? 0 : actions[action].kind);
     fill(b->back, back, to_console, from_back ? actions[action].kind : 0);
-    b->state[59] = (uint8_t)out;
-    b->state[60] = (uint8_t)back;
+    b->state[SENT] = (uint8_t)out;
+    b->state[RETURNED] = (uint8_t)back;
     if (actions[action].told == NOOSELESS_ILL_FORMED) b->back[NOOSELESS_TABLE_LEN - 1] = 1;
 }
 

@@ -6,7 +6,7 @@
 #include "packets.h"
 #include "peer.h"
 
-enum { PLACES = 64, CONTROLLER = NOOSELESS_CONSOLE_STATE_LEN, SENT = 59, RETURNED = 60 };
+enum { PLACES = 64, CONTROLLER = NOOSELESS_CONSOLE_STATE_LEN };
 
 /* A table, and where its count is. */
 struct channel {
@@ -66,7 +66,7 @@ static uint8_t console_takes(uint8_t *s, struct channel from, struct channel to,
     if (!s[CONSOLE_UP]) return NOOSELESS_IS_DOWN;
     if (place >= *from.count) return NOOSELESS_NO_PLACE;
     const uint8_t *p = from.table + place * NOOSELESS_PACKET_LEN;
-    uint8_t kind = p[5], report = NOOSELESS_NOTHING;
+    uint8_t kind = p[5];
     uint32_t last = number(s + CONSOLE_LAST), first = number(p + 8), i = kind == NOOSELESS_KIND_OFFER ? number(p + 12) : first;
     int taken = kind == NOOSELESS_KIND_OFFER && first == number(s + J);
     int reply = kind == NOOSELESS_KIND_OK || (kind == NOOSELESS_KIND_OFFER && !taken && i != last);
@@ -75,12 +75,11 @@ static uint8_t console_takes(uint8_t *s, struct channel from, struct channel to,
         memset(s + J, 0, 4);
         put_number(s + CONSOLE_LAST, i);
     } else if (kind != NOOSELESS_KIND_OFFER && i == last) {
-        rest(s);
-        report = kind == NOOSELESS_KIND_OK ? NOOSELESS_ANSWER_OK : NOOSELESS_ANSWER_LOST;
+        rest(s, kind == NOOSELESS_KIND_OK);
     }
     take_out(from, place);
     if (reply) send(to, copies, NOOSELESS_KIND_DONE, i, 0, 0);
-    return report;
+    return NOOSELESS_NOTHING;
 }
 
 static uint8_t controller_takes(uint8_t *s, struct channel from, struct channel to, size_t place, size_t copies, uint8_t *delivered) {
@@ -128,11 +127,23 @@ static uint8_t comes_back(uint8_t *s, uint8_t *up) {
     return NOOSELESS_NOTHING;
 }
 
+static uint8_t console_back(uint8_t *s) {
+    uint8_t told = comes_back(s, s + CONSOLE_UP);
+    if (!told) rest(s, 0);
+    return told;
+}
+
+static uint8_t controller_back(uint8_t *s) {
+    uint8_t told = comes_back(s, s + CONTROLLER_UP);
+    if (!told) memset(s + CONTROLLER_LAST, 0, 4);
+    return told;
+}
+
 uint8_t peer_bench_step(uint8_t *s, size_t n, uint8_t *out, size_t out_len, uint8_t *back, size_t back_len, uint8_t letter, size_t place,
                         size_t copies, const uint8_t *message, uint8_t *delivered) {
     enum { LETTER = 1, COPIES = 2 };
     static const uint8_t uses[256] = {['P'] = LETTER, ['C'] = LETTER, ['V'] = LETTER, ['X'] = LETTER, ['Y'] = LETTER, ['L'] = LETTER,
-        ['M'] = LETTER, ['Q'] = COPIES, ['D'] = COPIES, ['S'] = COPIES, ['O'] = COPIES, ['K'] = COPIES, ['R'] = COPIES};
+        ['M'] = LETTER, ['A'] = LETTER, ['Q'] = COPIES, ['D'] = COPIES, ['S'] = COPIES, ['O'] = COPIES, ['K'] = COPIES, ['R'] = COPIES};
     uint8_t *d = s + CONTROLLER;
     if (uses[letter] == 0) return NOOSELESS_NO_ACTION;
     if (n != NOOSELESS_BENCH_STATE_LEN || !console_well(s) || !controller_well(d)) return NOOSELESS_ILL_FORMED;
@@ -140,25 +151,19 @@ uint8_t peer_bench_step(uint8_t *s, size_t n, uint8_t *out, size_t out_len, uint
     if (letter == 'P' && !all_cells(message)) return NOOSELESS_NO_CELL;
     if (uses[letter] == COPIES && copies > 3) return NOOSELESS_MANY_COPIES;
     struct channel forth = {out, s + SENT}, home = {back, s + RETURNED};
-    uint8_t told;
     switch (letter) {
     case 'P': return hold(s, message);
     case 'Q': return sends(forth, copies, s[CONSOLE_UP], NOOSELESS_KIND_NEEDI, number(s + J), 0, 0);
     case 'D': return sends(forth, copies, s[CONSOLE_UP], NOOSELESS_KIND_DATA, number(s + CONSOLE_LAST), 0, s + CONSOLE_MESSAGE);
     case 'S': return console_takes(s, home, forth, place, copies);
     case 'C': s[CONSOLE_UP] = 0; return NOOSELESS_NOTHING;
-    case 'V':
-        told = comes_back(s, s + CONSOLE_UP);
-        if (!told) rest(s);
-        return told;
+    case 'V': return console_back(s);
     case 'O': return sends(home, copies, d[CONTROLLER_UP], NOOSELESS_KIND_OFFER, number(d + J), number(d + CONTROLLER_I), 0);
     case 'K': return sends(home, copies, d[CONTROLLER_UP], NOOSELESS_KIND_OK, number(d + CONTROLLER_LAST), 0, 0);
     case 'R': return controller_takes(d, forth, home, place, copies, delivered);
     case 'X': d[CONTROLLER_UP] = 0; return NOOSELESS_NOTHING;
-    case 'Y':
-        told = comes_back(d, d + CONTROLLER_UP);
-        if (!told) memset(d + CONTROLLER_LAST, 0, 4);
-        return told;
+    case 'Y': return controller_back(d);
+    case 'A': return tell(s);
     case 'L': return loses(forth, place);
     default: return loses(home, place);
     }

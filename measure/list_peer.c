@@ -24,7 +24,7 @@ struct numbers {
 static struct {
     struct numbers numbers;
     uint32_t number;
-    uint8_t mode, down;
+    uint8_t mode, down, ack;
     uint8_t message[CELLS];
 } console;
 
@@ -64,13 +64,23 @@ static void take_out(struct channel *c, unsigned place) {
 
 static inline int full(const struct channel *c, unsigned copies) { return c->count + copies > PLACES; }
 
+static int console_holds(const uint8_t *message) {
+    if (console.down) return 4;
+    if (console.mode != IDLE) return 6;
+    if (console.numbers.used == UINT32_MAX) return 8;
+    console.mode = NEED_I;
+    console.number = take_number(&console.numbers);
+    memcpy(console.message, message, CELLS);
+    return NOTHING;
+}
+
 static int console_takes(unsigned place, unsigned copies) {
     if (console.down) return 4;
     if (place >= back.count) return 3;
     const uint8_t *p = back.place[place];
     uint8_t kind = p[5];
     uint32_t first = number(p + 8), i = kind == OFFER ? number(p + 12) : first;
-    int reply = 1, report = NOTHING;
+    int reply = 1;
     if (kind == OFFER) {
         if (console.mode == NEED_I && first == console.number) {
             console.mode = SEND;
@@ -84,17 +94,25 @@ static int console_takes(unsigned place, unsigned copies) {
         if (full(&out, copies)) return 9;
         if (console.mode == SEND && i == console.number) {
             console.mode = IDLE;
-            report = ANSWERED_OK;
+            console.ack = 1;
         }
     } else {
         reply = 0;
         if (console.mode == SEND && i == console.number) {
             console.mode = IDLE;
-            report = ANSWERED_LOST;
+            console.ack = 0;
         }
     }
     take_out(&back, place);
     if (reply) send(&out, copies, DONE, i, 0, 0);
+    return NOTHING;
+}
+
+static int console_tells(void) {
+    if (console.down) return 4;
+    if (console.mode != IDLE) return 6;
+    int report = console.ack ? ANSWERED_OK : ANSWERED_LOST;
+    console.ack = 0;
     return report;
 }
 
@@ -154,14 +172,7 @@ static int loses(struct channel *c, unsigned place) {
 
 static int step(uint8_t letter, unsigned place, unsigned copies, const uint8_t *message, const uint8_t **delivered) {
     switch (letter) {
-    case 'P':
-        if (console.down) return 4;
-        if (console.mode != IDLE) return 6;
-        if (console.numbers.used == UINT32_MAX) return 8;
-        console.mode = NEED_I;
-        console.number = take_number(&console.numbers);
-        memcpy(console.message, message, CELLS);
-        return NOTHING;
+    case 'P': return console_holds(message);
     case 'Q': return sends(&out, copies, console.down, console.mode == NEED_I, NEEDI, console.number, 0, 0);
     case 'D': return sends(&out, copies, console.down, console.mode == SEND, DATA, console.number, 0, console.message);
     case 'S': return console_takes(place, copies);
@@ -170,6 +181,7 @@ static int step(uint8_t letter, unsigned place, unsigned copies, const uint8_t *
         if (!console.down) return 5;
         console.down = 0;
         console.mode = IDLE;
+        console.ack = 0;
         console.numbers.used = console.numbers.reserved;
         return NOTHING;
     case 'O': return sends(&back, copies, controller.down, controller.mode == ACCEPT, OFFER, controller.j, controller.number, 0);
@@ -182,6 +194,7 @@ static int step(uint8_t letter, unsigned place, unsigned copies, const uint8_t *
         controller.mode = IDLE;
         controller.numbers.used = controller.numbers.reserved;
         return NOTHING;
+    case 'A': return console_tells();
     case 'L': return loses(&out, place);
     default: return loses(&back, place);
     }
@@ -193,7 +206,7 @@ static const uint8_t uses[256] = {
     ['P'] = LETTER | USES_MESSAGE, ['Q'] = LETTER | USES_COPIES, ['D'] = LETTER | USES_COPIES,
     ['S'] = LETTER | USES_PLACE | USES_COPIES, ['C'] = LETTER, ['V'] = LETTER, ['O'] = LETTER | USES_COPIES,
     ['K'] = LETTER | USES_COPIES, ['R'] = LETTER | USES_PLACE | USES_COPIES, ['X'] = LETTER, ['Y'] = LETTER,
-    ['L'] = LETTER | USES_PLACE, ['M'] = LETTER | USES_PLACE,
+    ['L'] = LETTER | USES_PLACE, ['M'] = LETTER | USES_PLACE, ['A'] = LETTER,
 };
 
 static int play(const uint8_t *r, size_t n, const uint8_t **delivered) {

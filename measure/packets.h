@@ -51,8 +51,9 @@ static inline void write_packet(uint8_t *p, uint8_t kind, uint32_t first, uint32
 /* ---- states of the ends; what is no state is not well formed ---- */
 
 enum { USED = 0, RESERVED = 4, BLOCK = 8, J = 10 };
-enum { CONSOLE_LAST = 14, CONSOLE_HELD = 18, CONSOLE_UP = 19, CONSOLE_MESSAGE = 20 };
+enum { CONSOLE_LAST = 14, CONSOLE_HELD = 18, CONSOLE_UP = 19, CONSOLE_ACK = 20, CONSOLE_MESSAGE = 21 };
 enum { CONTROLLER_I = 14, CONTROLLER_LAST = 18, CONTROLLER_UP = 22 };
+enum { SENT = 60, RETURNED = 61 }; /* the counts of a bench */
 
 static inline uint32_t block_of(const uint8_t *s) { return (uint32_t)s[BLOCK] << 8 | s[BLOCK + 1]; }
 
@@ -63,7 +64,7 @@ static inline int numbers_well(const uint8_t *s) {
 
 static inline int console_well(const uint8_t *s) {
     uint32_t j = number(s + J), last = number(s + CONSOLE_LAST);
-    if (s[CONSOLE_HELD] > 1 || s[CONSOLE_UP] > 1 || !numbers_well(s)) return 0;
+    if (s[CONSOLE_HELD] > 1 || s[CONSOLE_UP] > 1 || s[CONSOLE_ACK] > 1 || !numbers_well(s)) return 0;
     if (!s[CONSOLE_HELD]) return j == 0 && last == 0 && all_are(s + CONSOLE_MESSAGE, 0x20);
     return (j == 0) != (last == 0) && j <= number(s + USED) && all_cells(s + CONSOLE_MESSAGE);
 }
@@ -96,9 +97,19 @@ static inline uint8_t hold(uint8_t *s, const uint8_t *message) {
     return NOOSELESS_NOTHING;
 }
 
-/* A console that holds no message. */
-static inline void rest(uint8_t *s) {
+/* Tells what became of the last order, once; 4, 6. */
+static inline uint8_t tell(uint8_t *s) {
+    if (!s[CONSOLE_UP]) return NOOSELESS_IS_DOWN;
+    if (s[CONSOLE_HELD]) return NOOSELESS_OTHER_MODE;
+    uint8_t told = s[CONSOLE_ACK] ? NOOSELESS_ANSWER_OK : NOOSELESS_ANSWER_LOST;
+    s[CONSOLE_ACK] = 0;
+    return told;
+}
+
+/* A console that holds no message, with the answer to the last one. */
+static inline void rest(uint8_t *s, uint8_t ack) {
     __builtin_memset(s + CONSOLE_LAST, 0, CONSOLE_UP - CONSOLE_LAST);
+    s[CONSOLE_ACK] = ack;
     __builtin_memset(s + CONSOLE_MESSAGE, 0x20, NOOSELESS_MESSAGE_LEN);
 }
 

@@ -1,6 +1,6 @@
 /*
- * What the two boxes spend their time on, R of a controller and S of a console run alone, and the console's P, as C that makes the same checks
- * of the same bytes: the peer of the measure.
+ * What the two boxes spend their time on, R of a controller and S of a console run alone, and the console's P and A, as C that makes the same
+ * checks of the same bytes: the peer of the measure.
  */
 #include "packets.h"
 #include "peer.h"
@@ -60,13 +60,12 @@ uint8_t peer_s(uint8_t *s, size_t n, const uint8_t *packet, size_t packet_len, u
     }
     if (p.kind == NOOSELESS_KIND_LOST) {
         if (p.first != last) return NOOSELESS_NOTHING;
-        rest(s);
-        return NOOSELESS_ANSWER_LOST;
+        rest(s, 0);
+        return NOOSELESS_NOTHING;
     }
     write_packet(reply, NOOSELESS_KIND_DONE, p.first, 0);
-    if (p.first != last) return NOOSELESS_SENT;
-    rest(s);
-    return NOOSELESS_ANSWER_OK | NOOSELESS_SENT;
+    if (p.first == last) rest(s, 1);
+    return NOOSELESS_SENT;
 }
 
 uint8_t peer_p(uint8_t *s, size_t n, const uint8_t *message) {
@@ -74,4 +73,9 @@ uint8_t peer_p(uint8_t *s, size_t n, const uint8_t *message) {
     if (!all_cells(message)) return NOOSELESS_NO_CELL;
     uint8_t told = used_up(s) ? NOOSELESS_KEEP : NOOSELESS_NOTHING, refusal = hold(s, message);
     return refusal ? refusal : told;
+}
+
+uint8_t peer_a(uint8_t *s, size_t n) {
+    if (n != NOOSELESS_CONSOLE_STATE_LEN || !console_well(s)) return NOOSELESS_ILL_FORMED;
+    return tell(s);
 }

@@ -1,5 +1,5 @@
 #!/bin/sh
-# R of a controller, S and P of a console run alone, proved, against C that makes the same checks (peer.c): executed instructions a call, and
+# R of a controller, S, P and A of a console run alone, proved, against C that makes the same checks (peer.c): executed instructions a call, and
 # their ratio, case by case. Needs valgrind to count. The peer is built by the compiler of the archive's back end, at -O3 as it is.
 set -eu
 cd "$(dirname "$0")/.."

@@ -1,4 +1,4 @@
-/* The thirteen letters, and what an action answers. */
+/* The fourteen letters, and what an action answers. */
 #include "second.h"
 
 static const Action actions[] = {
@@ -16,6 +16,7 @@ static const Action actions[] = {
     {'Y', CONTROLLER, false, false, false},
     {'L', AIR, true, false, false},
     {'M', AIR, true, false, false},
+    {'A', CONSOLE, false, false, false},
 };
 
 const Action *find_action(uint8_t letter)

@@ -56,6 +56,9 @@ int console_refusal(const Console *console, uint8_t letter)
     if (letter == 'P' && console->held) {
         return WRONG_MODE;
     }
+    if (letter == 'A' && console->held) {
+        return WRONG_MODE;
+    }
     if (letter == 'Q' && console->j == 0) {
         return WRONG_MODE;
     }
@@ -103,20 +106,18 @@ static Effect takes_ok(Console *console, INumber i)
 
     if (i == console->last) {
         let_go(console);
-        effect.outcome.report = ANSWERED_OK;
+        console->ack_ok = true;
     }
     return effect;
 }
 
 static Effect takes_lost(Console *console, INumber i)
 {
-    Effect effect = no_effect();
-
     if (i == console->last) {
         let_go(console);
-        effect.outcome.report = ANSWERED_LOST;
+        console->ack_ok = false;
     }
-    return effect;
+    return no_effect();
 }
 
 static Effect takes(Console *console, const Packet *in)
@@ -140,9 +141,20 @@ static Effect comes_back(Console *console)
 {
     let_go(console);
     console->j = 0;
+    console->ack_ok = false;
     console->down = false;
     numbers_come_back(&console->numbers);
     return no_effect();
+}
+
+/* An answer is told once: the next reading is lost. */
+static Effect tells_ack(Console *console)
+{
+    Effect effect = no_effect();
+
+    effect.outcome.report = console->ack_ok ? ANSWERED_OK : ANSWERED_LOST;
+    console->ack_ok = false;
+    return effect;
 }
 
 Effect console_acts(Console *console, uint8_t letter, const uint8_t *message,
@@ -159,6 +171,8 @@ Effect console_acts(Console *console, uint8_t letter, const uint8_t *message,
         return takes(console, in);
     case 'C':
         return goes_down(console);
+    case 'A':
+        return tells_ack(console);
     default:
         return comes_back(console);
     }

@@ -3,19 +3,19 @@
 
 #include <string.h>
 
-typedef enum { FORWARD, REPEAT, TAKE, LOSE, CRASH, ANY, SPOIL } Intent;
+typedef enum { FORWARD, REPEAT, TAKE, LOSE, CRASH, READ, ANY, SPOIL } Intent;
 
-#define INTENTS 7u
+#define INTENTS 8u
 
 /* How often, of 100. A mixed list goes by the other rows in turn. */
 static const uint8_t weights[MIXED][INTENTS] = {
-    /* forward, repeat, take, lose, crash, any, spoil */
-    [CALM] = {84, 6, 3, 2, 2, 2, 1},
-    [NOISY] = {40, 16, 24, 8, 3, 7, 2},
-    [CRASHES] = {64, 6, 10, 3, 12, 4, 1},
-    [FLOOD] = {32, 36, 22, 2, 2, 5, 1},
-    [STALE] = {62, 12, 18, 1, 4, 2, 1},
-    [JUNK] = {48, 6, 6, 2, 2, 6, 30},
+    /* forward, repeat, take, lose, crash, read, any, spoil */
+    [CALM] = {80, 6, 3, 2, 2, 4, 2, 1},
+    [NOISY] = {36, 16, 24, 8, 3, 4, 7, 2},
+    [CRASHES] = {58, 6, 10, 3, 12, 6, 4, 1},
+    [FLOOD] = {28, 36, 22, 2, 2, 4, 5, 1},
+    [STALE] = {58, 12, 18, 1, 4, 4, 2, 1},
+    [JUNK] = {44, 6, 6, 2, 2, 4, 6, 30},
 };
 
 /* splitmix64 */
@@ -199,7 +199,7 @@ static char draw_repeat(Generator *generator)
     return controller;
 }
 
-/* What brings the link on: return, take, put or send. */
+/* What brings the link on: return, take, read the answer, put or send. */
 static char draw_forward(Generator *generator)
 {
     const Bench *bench = &generator->bench;
@@ -216,15 +216,15 @@ static char draw_forward(Generator *generator)
     if (console_up && bench->to_console.count > 0 && chance(generator, 60)) {
         return 'S';
     }
-    if (console_up && !bench->console.held && chance(generator, 70)) {
-        return 'P';
+    if (console_up && !bench->console.held && chance(generator, 90)) {
+        return chance(generator, 30) ? 'A' : 'P';
     }
     return draw_repeat(generator);
 }
 
 static char draw_letter(Generator *generator, Intent intent)
 {
-    static const char letters[] = "PPPQDSCVOKRXYLM";
+    static const char letters[] = "PPPQDSCVOKRXYLMA";
 
     switch (intent) {
     case REPEAT:
@@ -235,6 +235,8 @@ static char draw_letter(Generator *generator, Intent intent)
         return chance(generator, 50) ? 'L' : 'M';
     case CRASH:
         return "CCXXVY"[draw(generator, 6)];
+    case READ:
+        return 'A';
     case ANY:
         return letters[draw(generator, sizeof letters - 1)];
     case SPOIL:

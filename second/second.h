@@ -1,5 +1,5 @@
-/* The link and the numbering of document 01, with document 02's request 1, a
- * second time: the two ends, the packets, the number records, the bench and
+/* The link and the numbering of document 01, with document 02's requests 1 and
+ * 2, a second time: the two ends, the packets, the number records, the bench and
  * the list program. Every entry is total: any values, lengths and tables may
  * be handed to it. */
 #ifndef SECOND_H
@@ -132,7 +132,7 @@ uint32_t take_number(Numbers *numbers); /* of those that are not spent */
 void numbers_come_back(Numbers *numbers);
 NumberRecord record_numbers(uint8_t end, const Numbers *numbers);
 
-/* ---- the thirteen actions: actions.c ---- */
+/* ---- the fourteen actions: actions.c ---- */
 
 typedef enum { CONSOLE, CONTROLLER, AIR } Actor;
 
@@ -175,6 +175,7 @@ typedef struct {
     uint8_t message[CELLS];
     JNumber j;
     INumber last;
+    bool ack_ok; /* what became of the last order: OK, otherwise lost */
     bool down;
 } Console;
 

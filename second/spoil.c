@@ -20,7 +20,7 @@ static uint8_t draw_of(Generator *generator, const char *bytes, size_t length)
 
 static void spoil_letter(Generator *generator, uint8_t *bytes)
 {
-    static const char letters[] = "pqdscvokrxylmABEFGHIJNTUWZ?0 \n";
+    static const char letters[] = "pqdscvokrxylmaBEFGHIJNTUWZ?0 \n";
 
     bytes[0] = draw_of(generator, letters, sizeof letters);
 }

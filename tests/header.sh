@@ -91,7 +91,12 @@ for end in console controller; do
     stage "a $end that always keeps" wrong 4 $end always
 done
 stage "a controller that replies first" wrong 1 controller reply_first
-stage "a console that replies first" wrong 4 console reply_first
 stage "a controller that steps twice" wrong 1 controller twice
 stage "a console that repeats Q alone" wrong 3 console no_data
+stage "a console that keeps its ack" wrong 1 console keeps_ack
+stage "a console that reads twice" wrong 1 console reads_twice
+stage "a console that always reads" wrong 1 console reads_always
+stage "a console that never reads" wrong 3 console reads_never
+stage "a console that reads before it replies" wrong 4 console reads_first
+stage "a console that forgets its row" wrong 4 console no_row
 told

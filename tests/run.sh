@@ -37,7 +37,7 @@ bytewise() { dd if="$listing" bs=1 2>"$dir/dd" | ./run; }
 # Pieces of 13 bytes, each by a process of its own.
 in_pieces() {
     k=0
-    while [ "$k" -lt 17 ]; do
+    while [ "$k" -lt 20 ]; do
         dd if="$listing" bs=13 skip="$k" count=1 2>"$dir/dd"
         k=$((k + 1))
     done | ./run
@@ -45,19 +45,21 @@ in_pieces() {
 
 from_elsewhere() { (cd "$root/crates/list" && "$root/run" stdin); }
 
-# explains LIST: without what is indented it is the plain output; after each line the refusal's number, if there is one, and the four
-# lines of the bench.
+# explains LIST: without what is indented it is the plain output; after each line the refusal's number or the answer, if there is one, and
+# the four lines of the bench.
 explains() {
     ./run "$1" >"$dir/plain" && ./run --explain "$1" >"$dir/explained" || return 1
     LC_ALL=C grep -v '^  ' "$dir/explained" | cmp "$dir/plain" - || return 1
     LC_ALL=C awk '
         /^[0-9]/ && left == 0 {
             report = substr($0, 8, 2)
-            left = report ~ /[0-9][0-9]/ ? 5 : 4
+            left = report ~ /[0-9][0-9]|OK|LO/ ? 5 : 4
             next
         }
         left == 5 && $0 ~ "^  refused " report ": [a-zA-Z]" { left = 4; next }
-        left == 4 && /^  console (up|down), (idle|needI j=[0-9]+|send last=[0-9]+), last used J [0-9]+, reserved to [0-9]+(, holds ".*")?$/ { left = 3; next }
+        left == 5 && report == "OK" && /^  answer OK: / { left = 4; next }
+        left == 5 && report == "LO" && /^  answer lost: / { left = 4; next }
+        left == 4 && /^  console (up|down), (idle|needI j=[0-9]+|send last=[0-9]+), last used J [0-9]+, reserved to [0-9]+, ack (OK|lost)(, holds ".*")?$/ { left = 3; next }
         left == 3 && /^  controller (up|down), (idle|accept j=[0-9]+ i=[0-9]+|ack last=[0-9]+), last used I [0-9]+, reserved to [0-9]+$/ { left = 2; next }
         left == 2 && /^  to controller:( empty|( (needI|data|done)[(][0-9]+[)])+)$/ { left = 1; next }
         left == 1 && /^  to console:( empty|( (offer[(][0-9]+,|OK[(]|lost[(])[0-9]+[)])+)$/ { left = 0; next }

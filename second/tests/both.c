@@ -44,6 +44,7 @@ void check_alone(const Bench *before, const Bench *after,
                      after->console.held, after->console.j,
                      after->console.last, after->console.down));
     CHECK(memcmp(console.message, after->console.message, CELLS) == 0);
+    CHECK(console.ack_ok == after->console.ack_ok);
     CHECK(same_numbers(&controller.numbers, &after->controller.numbers));
     CHECK(controller_is(&controller, after->controller.numbers.last_used,
                         after->controller.j, after->controller.i,

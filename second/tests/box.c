@@ -58,7 +58,7 @@ Outcome run_box(Box *box, char letter)
 
 void check_all_letters(Box *box, bool good)
 {
-    const char *letters = box->end == CONSOLE ? "PQDSCV" : "OKRXY";
+    const char *letters = box->end == CONSOLE ? "PQDSCVA" : "OKRXY";
 
     for (size_t n = 0; letters[n] != '\0'; n++) {
         Box before;

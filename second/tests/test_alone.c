@@ -68,7 +68,7 @@ static void bring_up(Box *box)
     box->controller.down = false;
 }
 
-/* P with a message held; Q D O K with the other number set. */
+/* P A with a message held; Q D O K with the other number set. */
 static void change_mode(Box *box)
 {
     bool in_accept = box->controller.i != 0;
@@ -91,8 +91,8 @@ static void raise_i(Box *box)
 
 /* In the order of document 01. */
 static const Fault faults[] = {
-    {1, spoil_letter, "PQDSCVOKRXY"},
-    {2, spoil_end, "PQDSCVOKRXY"},
+    {1, spoil_letter, "PQDSCVAOKRXY"},
+    {2, spoil_end, "PQDSCVAOKRXY"},
     {12, spoil_packet_length, "SR"},
     {12, spoil_reply_length, "QDSOKR"},
     {13, spoil_mark, "SR"},
@@ -100,9 +100,9 @@ static const Fault faults[] = {
     {15, spoil_direction, "SR"},
     {15, spoil_zero_bytes, "SR"},
     {11, spoil_cell, "P"},
-    {4, take_down, "PQDSOKR"},
+    {4, take_down, "PQDSAOKR"},
     {5, bring_up, "VY"},
-    {6, change_mode, "PQDOK"},
+    {6, change_mode, "PQDAOK"},
     {8, spend_numbers, "P"},
     {7, raise_i, "R"},
 };
@@ -113,8 +113,9 @@ static const Fault faults[] = {
  * numbers that are reserved and not used. */
 static void start_good(Box *box, char letter)
 {
-    if (strchr("PQDSCV", letter) != NULL) {
+    if (strchr("PQDSCVA", letter) != NULL) {
         start_console_box(box, 5);
+        box->console.ack_ok = true;
         set_console(box, letter == 'Q' ? 5 : 0, letter == 'D' ? 7 : 0);
         set_packet_in(box, OK, 6, 0);
     } else {
@@ -181,7 +182,7 @@ static void check_letters(void)
         set_packet_in(&box, OK, 6, 0);
         outcome = run_box(&box, (char)letter);
         CHECK((outcome.refusal == BAD_RECORD) ==
-              (letter == 0 || strchr("PQDSCV", (int)letter) == NULL));
+              (letter == 0 || strchr("PQDSCVA", (int)letter) == NULL));
         start_controller_box(&box, 8);
         set_packet_in(&box, DATA, 6, 0);
         outcome = run_box(&box, (char)letter);
@@ -216,7 +217,7 @@ static void check_i_above(void)
 
 void test_alone_refusals(void)
 {
-    static const char letters[] = "PQDSCVOKRXY";
+    static const char letters[] = "PQDSCVAOKRXY";
 
     for (size_t n = 0; letters[n] != '\0'; n++) {
         for (unsigned set = 0; set < 1u << FAULTS; set++) {
@@ -247,7 +248,7 @@ static void check_reply_length(void)
     }
 }
 
-/* P C V X Y are lent no buffers, Q D O K no packet in, only P a message. */
+/* P C V A X Y are lent no buffers, Q D O K no packet in, only P a message. */
 static void check_not_looked_at(void)
 {
     uint8_t reply[PACKET_BYTES];
@@ -260,6 +261,8 @@ static void check_not_looked_at(void)
     CHECK(console_alone(&console, 'Q', NULL, NULL, 7, reply, 32).refusal == 0);
     CHECK(console_alone(&console, 'C', NULL, NULL, 0, NULL, 33).refusal == 0);
     CHECK(console_alone(&console, 'V', NULL, NULL, 1, NULL, 0).refusal == 0);
+    CHECK(console_alone(&console, 'A', NULL, NULL, 0, NULL, 0).refusal == 0);
+    CHECK(console_alone(&console, 'A', NULL, NULL, 7, NULL, 33).refusal == 0);
     CHECK(console_alone(&console, 'S', NULL, NULL, 0, reply, 32).refusal == 12);
     CHECK(console_alone(&console, 'S', NULL, NULL, 0, NULL, 0).refusal == 12);
     controller.last = 8;

@@ -48,6 +48,7 @@ static void draw_ends(Generator *generator, Bench *bench)
     *controller = fresh_controller(0);
     console->numbers = draw_numbers(generator);
     controller->numbers = draw_numbers(generator);
+    console->ack_ok = draw(generator, 2) == 0;
     console->down = draw(generator, 8) == 0;
     controller->down = draw(generator, 8) == 0;
     if (mode % 3 != 0) {
@@ -91,7 +92,7 @@ static void draw_channel(Generator *generator, Channel *channel,
 
 static void draw_record(Generator *generator, ListRecord *record)
 {
-    record->letter = (uint8_t)"PQDSCVOKRXYLMRSRSQDOKZ"[draw(generator, 22)];
+    record->letter = (uint8_t)"PQDSCVOKRXYLMARSRSQDOKZ"[draw(generator, 23)];
     record->place = (size_t)draw(generator, draw(generator, 2) ? 3 : 66);
     record->copies = (size_t)draw(generator, 5);
     draw_message(generator, record->message);

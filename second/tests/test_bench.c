@@ -48,10 +48,12 @@ static void check_lost_although_delivered(void)
     CHECK(f.bench.to_console.count == 2);
     CHECK(packet_at_is(&f.bench.to_console, 0, OK, 1, 0));
     CHECK(packet_at_is(&f.bench.to_console, 1, LOST, 1, 0));
-    CHECK(play(&f, "S1=LO"));
+    CHECK(play(&f, "S1"));
     CHECK(message_is(f.last.message, ""));
     CHECK(console_is(&f.bench.console, 1, false, 0, 0, false));
     CHECK(numbers_are(&f.bench.controller.numbers, 64, 64, 64));
+    CHECK(play(&f, "A=LO"));
+    CHECK(play_fresh(&f, "PSTART Q1 R0 O1 S0 D2 R0:1=DL X Y D1 R0:1 S0 A=OK"));
 }
 
 static void check_delivered_while_next_held(void)
@@ -146,7 +148,7 @@ void test_easy_mistakes(void)
     /* i kept through a restart, or its counter started again */
     CHECK(play_fresh(&f, "Pa Q2 R0 X Y O1=06 R0 O1"));
     CHECK(packet_at_is(&f.bench.to_console, 0, OFFER, 1, 65));
-    CHECK(play_fresh(&f, "Pa Q2 R0 O1 X Y S0 D1 R1:1 S0=LO"));
+    CHECK(play_fresh(&f, "Pa Q2 R0 O1 X Y S0 D1 R1:1 S0 A=LO"));
     CHECK(play_fresh(&f, "C V P C V P Q1"));
     CHECK(packet_at_is(&f.bench.to_controller, 0, NEED_I, 65, 0));
     /* a put is no delivery */

@@ -47,7 +47,7 @@ static void check_replies(void)
     CHECK(packet_at_is(&f.bench.to_console, 0, OFFER, 1, 1));
     CHECK(packet_at_is(&f.bench.to_console, 1, OK, 1, 0));
     CHECK(packet_at_is(&f.bench.to_console, 2, OK, 1, 0));
-    CHECK(play(&f, "S1:3=OK"));
+    CHECK(play(&f, "S1:3 A=OK"));
     CHECK(f.bench.to_controller.count == 4);
     CHECK(packet_at_is(&f.bench.to_controller, 0, DATA, 1, 0));
     CHECK(packet_at_is(&f.bench.to_controller, 1, DONE, 1, 0));
@@ -146,7 +146,7 @@ static void check_no_reply_no_room(void)
     CHECK(f.bench.to_controller.count == 0);
     CHECK(play_fresh(&f, "Pa Q1 R0 O2 S0 D1 R0:1=DL"));
     fill_channel(&f.bench.to_controller, DONE);
-    CHECK(play(&f, "S0:3 S0:1=09 S0:0=OK"));
+    CHECK(play(&f, "S0:3 S0:1=09 S0:0 A=OK"));
     CHECK(play_fresh(&f, "Pa Q1 R0 O1"));
     fill_channel(&f.bench.to_controller, DONE);
     CHECK(play(&f, "S0:3"));
@@ -162,7 +162,7 @@ static void check_other_channel(void)
     fill_channel(&f.bench.to_controller, DONE);
     CHECK(play(&f, "R0:3=DL"));
     CHECK(f.bench.to_controller.count == 63 && f.bench.to_console.count == 3);
-    CHECK(play(&f, "S0:1=OK S0:1=09"));
+    CHECK(play(&f, "S0:1 A=OK S0:1=09"));
     CHECK(f.bench.to_controller.count == 64 && f.bench.to_console.count == 2);
 }
 

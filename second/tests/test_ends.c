@@ -10,7 +10,7 @@ void test_starts(void)
 
     CHECK(console_is(&console, 17, false, 0, 0, false));
     CHECK(numbers_are(&console.numbers, 17, 17, 64));
-    CHECK(message_is(console.message, ""));
+    CHECK(message_is(console.message, "") && !console.ack_ok);
     CHECK(controller_is(&controller, LARGEST_NUMBER, 0, 0, 0, false));
     CHECK(numbers_are(&controller.numbers, LARGEST_NUMBER, LARGEST_NUMBER, 64));
 }
@@ -102,7 +102,8 @@ void test_ill_formed_ends(void)
     check_last_cell();
 }
 
-/* S by mode and kind. last used J is 5; reply 0 is none. */
+/* S by mode and kind. last used J is 5; reply 0 is none. S reports nothing: the
+ * answer is stored. */
 static const struct {
     JNumber j;
     INumber last;
@@ -111,8 +112,8 @@ static const struct {
     uint32_t second;
     JNumber j_after;
     INumber last_after;
-    Report report;
-    INumber done; /* the reply, or 0 */
+    Report stored; /* NOTHING leaves the ack */
+    INumber done;  /* the reply, or 0 */
 } console_rows[] = {
     {0, 0, OFFER, 5, 9, 0, 0, NOTHING, 9},
     {0, 0, OFFER, 4, 5, 0, 0, NOTHING, 5},
@@ -139,7 +140,7 @@ static const struct {
     {0, 7, LOST, 8, 0, 0, 7, NOTHING, 0},
 };
 
-static void check_console_row(size_t n)
+static void check_console_row(size_t n, bool ack_ok)
 {
     Box box;
     JNumber j = console_rows[n].j_after;
@@ -148,10 +149,14 @@ static void check_console_row(size_t n)
 
     start_console_box(&box, 5);
     set_console(&box, console_rows[n].j, console_rows[n].last);
+    box.console.ack_ok = ack_ok;
     set_packet_in(&box, console_rows[n].kind, console_rows[n].first,
                   console_rows[n].second);
     Outcome outcome = run_box(&box, 'S');
-    CHECK(outcome.report == console_rows[n].report && outcome.refusal == 0);
+    CHECK(outcome.report == NOTHING && outcome.refusal == 0);
+    CHECK(box.console.ack_ok == (console_rows[n].stored == NOTHING
+                                     ? ack_ok
+                                     : console_rows[n].stored == ANSWERED_OK));
     CHECK(message_is(outcome.message, ""));
     CHECK(console_is(&box.console, 5, held, j, last, false));
     CHECK(message_is(box.console.message, held ? "HELD" : ""));
@@ -211,7 +216,8 @@ static void check_console_restart(JNumber j, INumber last)
 void test_console_rules(void)
 {
     for (size_t n = 0; n < sizeof console_rows / sizeof console_rows[0]; n++) {
-        check_console_row(n);
+        check_console_row(n, false);
+        check_console_row(n, true);
     }
     check_put();
     check_console_sends();

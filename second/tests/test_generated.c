@@ -59,6 +59,7 @@ static struct {
     unsigned place[PLACES];          /* R or S accepted there */
     unsigned full_to_controller;
     unsigned full_to_console;
+    unsigned read[2][2][2]; /* OK, the put's answer, console restarted */
 } met;
 
 static Match match_of(const Bench *bench, const Packet *packet)
@@ -121,9 +122,11 @@ static void meet(const Bench *before, const Packet *packet,
 typedef struct {
     Fixture f;
     uint32_t puts;
-    uint32_t delivered;      /* the newest put that was delivered */
-    bool controller_restart; /* down and back since the newest put */
-    bool controller_went_down;
+    uint32_t delivered; /* the newest put that was delivered */
+    bool answered;      /* an A since the newest put, or no put at all */
+    bool went_down[2];  /* console and controller, since the newest put */
+    bool restarted[2];  /* down and back, likewise */
+    bool given_up[RECORDS + 1]; /* answered lost by a console that stayed up */
 } Run;
 
 static void number_the_put(Run *run, ListRecord *record)
@@ -144,39 +147,61 @@ static uint32_t number_of_put(const uint8_t message[CELLS])
     return number;
 }
 
-/* At most once and in order; OK only if delivered; lost only after a restart
- * of the controller since the put. */
-static void check_report(Run *run, const Outcome *outcome)
+/* A put's answer is the first A after it. OK only if delivered, and by a
+ * console that stayed up; lost only after a restart of either end since the
+ * put. Any other reading is lost. */
+static void check_answer(Run *run, bool ok)
+{
+    met.read[ok][!run->answered][run->restarted[CONSOLE]] += 1;
+    if (ok) {
+        CHECK(!run->answered && run->delivered == run->puts);
+        CHECK(!run->went_down[CONSOLE]);
+    } else if (!run->answered) {
+        CHECK(run->restarted[CONSOLE] || run->restarted[CONTROLLER]);
+        run->given_up[run->puts] = !run->went_down[CONSOLE];
+    }
+    run->answered = true;
+}
+
+/* At most once and in order, and never after a console that stayed up read
+ * lost. */
+static void check_report(Run *run, uint8_t letter, const Outcome *outcome)
 {
     if (outcome->report == DELIVERED) {
         uint32_t put = number_of_put(outcome->message);
 
-        CHECK(put > run->delivered && put <= run->puts);
+        CHECK(put > run->delivered && put <= run->puts &&
+              !run->given_up[put]);
         run->delivered = put;
     } else {
         CHECK(message_is(outcome->message, ""));
     }
-    if (outcome->report == ANSWERED_OK) {
-        CHECK(run->delivered == run->puts);
-    }
-    if (outcome->report == ANSWERED_LOST) {
-        CHECK(run->controller_restart);
+    bool answer = outcome->report == ANSWERED_OK ||
+                  outcome->report == ANSWERED_LOST;
+    CHECK(answer == (letter == 'A'));
+    if (answer) {
+        check_answer(run, outcome->report == ANSWERED_OK);
     }
 }
 
-static void follow(Run *run, uint8_t letter, bool was_down)
+static void follow_end(Run *run, Actor end, bool down_before, bool down)
+{
+    run->went_down[end] = run->went_down[end] || (down && !down_before);
+    run->restarted[end] =
+        run->restarted[end] || (run->went_down[end] && down_before && !down);
+}
+
+static void follow(Run *run, uint8_t letter, const Bench *before)
 {
     if (letter == 'P') {
         run->puts += 1;
-        run->controller_restart = false;
-        run->controller_went_down = false;
+        run->answered = false;
+        memset(run->went_down, 0, sizeof run->went_down);
+        memset(run->restarted, 0, sizeof run->restarted);
     }
-    if (letter == 'X' && !was_down) {
-        run->controller_went_down = true;
-    }
-    if (letter == 'Y' && run->controller_went_down) {
-        run->controller_restart = true;
-    }
+    follow_end(run, CONSOLE, before->console.down, run->f.bench.console.down);
+    follow_end(run, CONTROLLER, before->controller.down,
+               run->f.bench.controller.down);
 }
 
 static void check_step(Run *run, ListRecord *record)
@@ -199,9 +224,9 @@ static void check_step(Run *run, ListRecord *record)
         CHECK(is_refusal(&outcome, outcome.refusal));
         CHECK(same_bench(&run->f, &before));
     } else {
-        follow(run, record->letter, before.bench.controller.down);
+        follow(run, record->letter, &before.bench);
         CHECK(outcome.report != REFUSED);
-        check_report(run, &outcome);
+        check_report(run, record->letter, &outcome);
     }
     if (in_box && outcome.refusal != NO_ROOM) {
         check_alone(&before.bench, &run->f.bench, record, bytes, &outcome);
@@ -230,6 +255,7 @@ static bool same_way(const Bench *one, const Bench *other)
     return same_numbers(&one->console.numbers, &console->numbers) &&
            console_is(&one->console, console->numbers.last_used, console->held,
                       console->j, console->last, console->down) &&
+           one->console.ack_ok == console->ack_ok &&
            same_numbers(&one->controller.numbers, &controller->numbers) &&
            controller_is(&one->controller, controller->numbers.last_used,
                          controller->j, controller->i, controller->last,
@@ -247,6 +273,7 @@ void test_generated_lists(void)
         uint8_t piece[PIECE_BYTES];
 
         memset(&run, 0, sizeof run);
+        run.answered = true;
         start(&run.f, 0, 0);
         start_generator(&generator, seed);
         for (size_t n = 0; n < RECORDS;) {
@@ -298,15 +325,27 @@ static void check_refused(void)
     static const struct {
         int refusal;
         const char *letters;
-    } refusals[] = {{1, "?"},        {3, "RSLM"},   {4, "PQDSOKR"},
-                    {5, "VY"},       {6, "PQDOK"},  {9, "QDSOKR"},
-                    {0, "PQDSCVOKRXYLM"}};
+    } refusals[] = {{1, "?"},        {3, "RSLM"},   {4, "PQDSOKRA"},
+                    {5, "VY"},       {6, "PQDOKA"}, {9, "QDSOKR"},
+                    {0, "PQDSCVOKRXYLMA"}};
 
     for (size_t n = 0; n < sizeof refusals / sizeof refusals[0]; n++) {
         for (unsigned letter = 1; letter < 256; letter++) {
             bool wanted = strchr(refusals[n].letters, (int)letter) != NULL;
 
             CHECK((met.refused[letter][refusals[n].refusal] > 0) == wanted);
+        }
+    }
+}
+
+/* OK is the answer of a put whose console stayed up; lost is any reading. */
+static void check_read(void)
+{
+    for (size_t answer = 0; answer < 2; answer++) {
+        for (size_t restarted = 0; restarted < 2; restarted++) {
+            CHECK(met.read[false][answer][restarted] > 0);
+            CHECK((met.read[true][answer][restarted] > 0) ==
+                  (answer == 1 && restarted == 0));
         }
     }
 }
@@ -320,6 +359,7 @@ void test_reach(void)
     check_taken();
     check_no_room();
     check_refused();
+    check_read();
     for (size_t n = 0; n < sizeof sends - 1; n++) {
         for (size_t copies = 0; copies <= MOST_COPIES; copies++) {
             CHECK(met.copies[(uint8_t)sends[n]][copies] > 0);

@@ -29,6 +29,24 @@ static void check_rows(const char *const rows[ROWS][2])
     CHECK(memcmp(output, wanted, length) == 0);
 }
 
+static void check_answer_rows(void)
+{
+    static const char *const rows[ROWS][2] = {
+        {"P000STOP", "0001 P --"},
+        {"Q001", "0002 Q --"},
+        {"R000", "0003 R --"},
+        {"O001", "0004 O --"},
+        {"S000", "0005 S --"},
+        {"D001", "0006 D --"},
+        {"R001", "0007 R DL STOP"},
+        {"S001", "0008 S --"},
+        {"A000", "0009 A OK"},
+        {"A000", "0010 A LO"},
+    };
+
+    check_rows(rows);
+}
+
 void test_listing(void)
 {
     static const char *const listing[ROWS][2] = {
@@ -39,7 +57,7 @@ void test_listing(void)
         {"S000", "0005 S --"},
         {"D002", "0006 D --"},
         {"R001", "0007 R DL START FILLER 03"},
-        {"S000", "0008 S OK"},
+        {"S000", "0008 S --"},
         {"R001", "0009 R --"},
         {"S000", "0010 S 03"},
     };
@@ -58,9 +76,10 @@ void test_listing(void)
 
     check_rows(listing);
     check_rows(other);
+    check_answer_rows();
 }
 
-static const char letters[] = "PQDSCVOKRXYLM";
+static const char letters[] = "PQDSCVOKRXYLMA";
 
 static bool uses(const char *users, uint8_t letter)
 {
@@ -143,7 +162,7 @@ static void check_bad_lines(void)
     static const char *const bad[] = {
         "p000a", "P010a", "P001a", "Q011", "Q004", "R640", "R0 0", "R 00",
         "C001",  "V010",  "L001",  "M0000", "X000 .", "0000", " 000", "?000",
-        "P000\x7F", "P000\x1F", "P000 \xB0",
+        "a000",  "A010",  "A001",  "A000A", "P000\x7F", "P000\x1F", "P000 \xB0",
     };
 
     for (size_t n = 0; n < sizeof bad / sizeof bad[0]; n++) {

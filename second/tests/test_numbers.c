@@ -154,7 +154,8 @@ static void check_numbers_stay(void)
         CHECK(run_box(&box, 'S').refusal == ACCEPTED);
         CHECK(run_box(&box, 'D').refusal == ACCEPTED);
         set_packet_in(&box, OK, 9, 0);
-        CHECK(run_box(&box, 'S').report == ANSWERED_OK);
+        CHECK(run_box(&box, 'S').refusal == ACCEPTED);
+        CHECK(run_box(&box, 'A').report == ANSWERED_OK);
         CHECK(run_box(&box, 'V').refusal == END_IS_UP);
         CHECK(run_box(&box, 'C').refusal == ACCEPTED);
         CHECK(run_box(&box, 'C').refusal == ACCEPTED);
@@ -349,13 +350,14 @@ static void check_loss_is_a_crash(Numbers numbers, uint32_t j, uint32_t i)
 
     start_with(&box, CONSOLE, numbers);
     set_console(&box, j, 0);
+    box.console.ack_ok = true;
     NumberRecord record = console_record(&box.console);
     CHECK(record.end == CONSOLE_RECORD && !record.old);
     CHECK(record.number == numbers.reserved && record.block == numbers.block);
     Console console = console_after_power_loss(&record);
     CHECK(console_well_formed(&console));
     CHECK(console_is(&console, numbers.reserved, false, 0, 0, true));
-    CHECK(message_is(console.message, ""));
+    CHECK(message_is(console.message, "") && !console.ack_ok);
     CHECK(numbers_are(&console.numbers, numbers.reserved, numbers.reserved,
                       numbers.block));
     run_box(&box, 'C');

@@ -3,7 +3,7 @@
 
 #include <string.h>
 
-static const char all_letters[] = "PQDSCVOKRXYLM";
+static const char all_letters[] = "PQDSCVOKRXYLMA";
 
 /* A step with everything that is handed to it. */
 typedef struct {
@@ -66,7 +66,7 @@ static void hold(Console *console, JNumber j, INumber last)
     set_message(console->message, "HELD");
 }
 
-/* P with a message held; Q D O K with the other number set. */
+/* P A with a message held; Q D O K with the other number set. */
 static void change_mode(Trial *trial)
 {
     bool needs_last = trial->letter == 'D' || trial->letter == 'K';
@@ -110,13 +110,13 @@ static void fill_target(Trial *trial)
 
 /* In the order of document 01. */
 static const Fault faults[] = {
-    {1, spoil_letter, "PQDSCVOKRXYLM"},
-    {2, spoil_bench, "PQDSCVOKRXYLM"},
+    {1, spoil_letter, "PQDSCVOKRXYLMA"},
+    {2, spoil_bench, "PQDSCVOKRXYLMA"},
     {11, spoil_cell, "P"},
     {10, raise_copies, "QDSOKR"},
-    {4, take_down, "PQDSOKR"},
+    {4, take_down, "PQDSOKRA"},
     {5, bring_up, "VY"},
-    {6, change_mode, "PQDOK"},
+    {6, change_mode, "PQDOKA"},
     {8, spend_numbers, "P"},
     {3, raise_place, "SRLM"},
     {7, raise_i, "R"},
@@ -145,6 +145,7 @@ static void start_good(Trial *trial, char letter, size_t copies)
     bench->controller.j = letter == 'O' ? 3 : 0;
     bench->controller.i = letter == 'O' ? 6 : 0;
     bench->controller.last = letter == 'K' ? 6 : 0;
+    bench->console.ack_ok = true;
     bench->console.down = letter == 'V';
     bench->controller.down = letter == 'Y';
     trial->letter = (uint8_t)letter;
@@ -191,7 +192,7 @@ static void check_fault_set(char letter, size_t copies, unsigned set)
     }
 }
 
-/* Only the thirteen letters are actions, on an ill-formed bench too. */
+/* Only the fourteen letters are actions, on an ill-formed bench too. */
 static void check_letters(void)
 {
     for (unsigned letter = 0; letter < 256; letter++) {
@@ -374,6 +375,7 @@ void test_unused_fields(void)
                                    action->copies ? 1 : SIZE_MAX, message);
         CHECK(one.refusal == ACCEPTED && other.refusal == ACCEPTED);
         CHECK(one.report == other.report);
+        CHECK(plain.f.bench.console.ack_ok == wild.f.bench.console.ack_ok);
         CHECK(memcmp(plain.f.to_controller, wild.f.to_controller,
                      TABLE_BYTES) == 0);
         CHECK(memcmp(plain.f.to_console, wild.f.to_console, TABLE_BYTES) == 0);

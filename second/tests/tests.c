@@ -33,6 +33,7 @@ static const struct {
     {"starts of an end", test_starts},
     {"ends that are not well formed", test_ill_formed_ends},
     {"rules of the console", test_console_rules},
+    {"the answer, stored and read", test_answers},
     {"rules of the controller", test_controller_rules},
     {"refusals of an end alone, and their order", test_alone_refusals},
     {"buffers of an end alone", test_alone_buffers},

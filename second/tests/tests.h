@@ -63,6 +63,7 @@ void test_power_loss(void);
 void test_starts(void);
 void test_ill_formed_ends(void);
 void test_console_rules(void);
+void test_answers(void);
 void test_controller_rules(void);
 void test_alone_refusals(void);
 void test_alone_buffers(void);

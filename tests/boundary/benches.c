@@ -4,6 +4,7 @@
 #include <string.h>
 
 static struct lent ours, theirs;
+static struct tally reads; /* of A by itself */
 
 /* ---- which refusals apply, not only the first ---- */
 
@@ -30,6 +31,7 @@ static unsigned end_rules(const Bench *b, uint8_t letter) {
     case 'D': return rule(4, c->down) | rule(6, c->last == 0);
     case 'S': return rule(4, c->down);
     case 'V': return rule(5, !c->down);
+    case 'A': return rule(4, c->down) | rule(6, c->held);
     case 'O': return rule(4, d->down) | rule(6, d->i == 0);
     case 'K': return rule(4, d->down) | rule(6, d->last == 0);
     case 'R': return rule(4, d->down);
@@ -74,6 +76,15 @@ static void state_to(const Bench *b, uint8_t *s) {
     s[BENCH_BACK] = (uint8_t)b->to_console.count;
 }
 
+/* Whether the ack alone is what makes the given bench none. */
+static int ack_is_no_flag(void) {
+    if (call.state_len != NOOSELESS_BENCH_STATE_LEN || given.state[CONSOLE_ACK] <= 1) return 0;
+    struct lent mended = given;
+    mended.state[CONSOLE_ACK] = 0;
+    Bench b = bench_from(&mended);
+    return bench_well_formed(&b);
+}
+
 static void step(void) {
     ours = theirs = given;
     Bench b = bench_from(&theirs);
@@ -90,6 +101,9 @@ static void step(void) {
                                call.copies, ours.message, ours.delivered) == want);
     check(!memcmp(&ours, &theirs, sizeof ours));
     count(&benches, o.refusal, rules);
+    if (call.letter == 'A') count(&reads, o.refusal, rules);
+    if (o.report != REFUSED) answered(&benches, call.letter, &before.console, &b.console);
+    benches.acks[NO_ACK] += ack_is_no_flag();
     moved(&benches, call.letter, &before.console.numbers, &b.console.numbers);
     moved(&benches, call.letter, &before.controller.numbers, &b.controller.numbers);
 }
@@ -134,7 +148,7 @@ void one_of_benches(void) {
     else step();
 }
 
-/* ---- every byte, every count, every place, every corner ---- */
+/* ---- every byte, every count, every place, every flag, every corner ---- */
 
 /* Every bit of a state and of both tables turned, one at a time. */
 static void every_bit(void) {
@@ -155,7 +169,7 @@ static void every_bit(void) {
 static void every_count(void) {
     for (int which = 0; which < 2; which++)
         for (uint32_t n = 0; n < 256; n++)
-            for (size_t i = 0; i < 13; i++) {
+            for (size_t i = 0; i < ACTIONS; i++) {
                 size_t held = n < PLACES ? n : PLACES, other = some_count();
                 next_case();
                 good_bench();
@@ -175,7 +189,7 @@ static void every_place(void) {
     static const size_t above[] = {64, 65, 66, 255, 256, (size_t)1 << 32, SIZE_MAX / PACKET_BYTES + 1, SIZE_MAX / PACKET_BYTES + 2, SIZE_MAX};
     for (size_t place = 0; place < PLACES + sizeof above / sizeof *above; place++)
         for (size_t c = 0; c < sizeof copies / sizeof *copies; c++)
-            for (size_t i = 0; i < 13; i++) {
+            for (size_t i = 0; i < ACTIONS; i++) {
                 next_case();
                 if (i % 4 == 0) good_bench();
                 some_message(given.message);
@@ -187,11 +201,26 @@ static void every_place(void) {
             }
 }
 
+/* Each byte in the place of each flag, every letter. */
+static void every_flag(void) {
+    static const size_t flags[] = {CONSOLE_HELD, CONSOLE_UP, CONSOLE_ACK, BENCH_CONTROLLER + CONTROLLER_UP};
+    for (size_t k = 0; k < sizeof flags / sizeof *flags; k++)
+        for (uint32_t byte = 0; byte < 256; byte++)
+            for (size_t i = 0; i < ACTIONS; i++) {
+                next_case();
+                good_bench();
+                given.state[flags[k]] = (uint8_t)byte;
+                some_call();
+                call.letter = (uint8_t)LETTERS[i];
+                step();
+            }
+}
+
 /* Numbers of each end at their corners, every letter. */
 static void every_corner(void) {
     for (size_t k = 0; k < CORNERS; k++)
         for (int controller = 0; controller < 2; controller++)
-            for (size_t i = 0; i < 13; i++) {
+            for (size_t i = 0; i < ACTIONS; i++) {
                 Numbers numbers = corner(k);
                 next_case();
                 good_bench();
@@ -207,6 +236,7 @@ void all_benches(void) {
     every_bit();
     every_count();
     every_place();
+    every_flag();
     every_corner();
 }
 
@@ -214,6 +244,9 @@ void all_benches(void) {
 int enough_benches(void) {
     static const Pair known[] = {{1, 2}, {2, 3}, {2, 4}, {2, 5}, {2, 6}, {2, 7}, {2, 8}, {2, 9}, {2, 10}, {2, 11}, {3, 4}, {3, 10}, {4, 6},
         {4, 7}, {4, 8}, {4, 9}, {4, 10}, {4, 11}, {6, 8}, {6, 10}, {6, 11}, {7, 9}, {7, 10}, {8, 11}, {9, 10}};
+    static const Pair reading[] = {{2, 4}, {2, 6}, {4, 6}};
     int steps = enough_steps(&benches, "benches");
+    steps = enough_answers(&benches, "benches", "PQDSCOKRXYLM") && steps;
+    steps = enough_rules(&reads, "A of benches", 1u << 2 | 1u << 4 | 1u << 6, reading, 3) && steps;
     return enough_rules(&benches, "benches", 0x0FFEu, known, sizeof known / sizeof *known) && steps;
 }

@@ -2,10 +2,10 @@
  * The archive's entries beside the second program, in one process: any bytes, valid, damaged in one byte, or by chance. Each answer and every
  * lent buffer, with the bytes around it, must be what the second program says.
  *
- * boundary CASES SEED: first each bit of packets, number records and ends' states, each length of a record, numbers at their corners, each bit,
- * count and place of a bench, then as many cases by chance. Prints how often each refusal, and each pair of refusals that apply together, was
- * met. Ends with 1 at the first difference, with 3 if a refusal, a pair that it knows of, a report or a way in which numbers move was met fewer
- * than LEAST times.
+ * boundary CASES SEED: first each bit of packets, number records and ends' states, each length of a record, each byte in the place of a flag,
+ * numbers at their corners, each bit, count and place of a bench, then as many cases by chance. Prints how often each refusal, and each pair of
+ * refusals that apply together, was met. Ends with 1 at the first difference, with 3 if a refusal, a pair that it knows of, a report, what A prints
+ * in a list, or a way in which numbers or the ack move was met fewer than LEAST times.
  */
 #include "shared.h"
 
@@ -31,12 +31,14 @@ int main(int argc, char **argv) {
     }
     unsigned long cases = strtoul(argv[1], NULL, 10);
     seed(strtoull(argv[2], NULL, 10));
+    entry = "nooseless_version";
+    check(nooseless_version() == NOOSELESS_VERSION);
     all_ends();
     all_benches();
     for (unsigned long n = 0; n < cases; n++) one_case();
     printf("%lu cases, no difference\n", cases);
-    tell_lists();
-    int all = enough_ends();
+    int all = enough_lists();
+    all = enough_ends() && all;
     all = enough_records() && all;
     if (enough_benches() && all) return 0;
     printf("too few of a kind for this to say anything\n");

@@ -7,6 +7,7 @@
 struct box box;
 struct asked asked;
 static struct box ours, theirs;
+static struct tally reads; /* of A by itself */
 
 static void some_console(uint8_t *s) {
     Console c = fresh_console(0);
@@ -14,6 +15,7 @@ static void some_console(uint8_t *s) {
     scribble(s, ROOM);
     c.numbers = some_numbers();
     c.down = roll(4) == 0;
+    c.ack_ok = roll(2);
     c.held = mode != 0;
     if (mode == 1) c.j = roll(2) ? c.numbers.last_used : some_number();
     if (mode == 2) c.last = some_number();
@@ -65,6 +67,7 @@ static unsigned console_end_rules(void) {
     case 'D': return rule(4, s[CONSOLE_UP] == 0) | rule(6, get_number(s + CONSOLE_LAST) == 0);
     case 'S': return rule(4, s[CONSOLE_UP] == 0);
     case 'V': return rule(5, s[CONSOLE_UP] == 1);
+    case 'A': return rule(4, s[CONSOLE_UP] == 0) | rule(6, s[CONSOLE_HELD] == 1);
     default: return 0;
     }
 }
@@ -131,6 +134,17 @@ static void compare(int controller, const Outcome *o, unsigned rules, int keep, 
     check(!memcmp(&ours, &theirs, sizeof ours));
     if (o->report != REFUSED) check(records_differ(controller, box.state, ours.state) == ((got & NOOSELESS_KEEP) != 0));
     count(&ends, o->refusal, rules);
+    if (asked.letter == 'A') count(&reads, o->refusal, rules);
+}
+
+/* Whether the ack alone is what makes the state in the box none. */
+static int ack_is_no_flag(void) {
+    uint8_t mended[ROOM];
+    if (asked.state_len != NOOSELESS_CONSOLE_STATE_LEN || box.state[CONSOLE_ACK] <= 1) return 0;
+    memcpy(mended, box.state, ROOM);
+    mended[CONSOLE_ACK] = 0;
+    Console c = console_from(mended, asked.state_len);
+    return console_well_formed(&c);
 }
 
 void console_step(void) {
@@ -143,6 +157,8 @@ void console_step(void) {
     uint8_t got = nooseless_console_step(ours.state, asked.state_len, asked.letter, ours.message, ours.in, asked.in_len, ours.out, asked.out_len);
     compare(0, &o, rules, rewritten(console_record(&before), console_record(&c)), got);
     moved(&ends, asked.letter, &before.numbers, &c.numbers);
+    if (o.report != REFUSED) answered(&ends, asked.letter, &before, &c);
+    ends.acks[NO_ACK] += ack_is_no_flag();
 }
 
 void controller_step(void) {
@@ -226,7 +242,7 @@ static void some_step(int controller) {
     some_packet(box.in, box.state);
     asked.in_len = some_length(PACKET_BYTES);
     asked.out_len = some_length(PACKET_BYTES);
-    asked.letter = some_letter(controller ? "OKRRRRXY" : "PQDSSSCV");
+    asked.letter = some_letter(controller ? "OKRRRRXY" : "PQDSSSSSCVA");
     if (controller) controller_step();
     else console_step();
 }
@@ -257,8 +273,11 @@ int enough_ends(void) {
     static const Pair known[] = {{1, 2}, {2, 4}, {2, 5}, {2, 6}, {2, 7}, {2, 8}, {2, 11}, {2, 12}, {2, 13}, {2, 14}, {2, 15}, {4, 6},
         {4, 7}, {4, 8}, {4, 11}, {4, 12}, {4, 13}, {4, 14}, {4, 15}, {6, 8}, {6, 11}, {6, 12}, {7, 12}, {8, 11}, {12, 13}, {12, 14},
         {12, 15}, {13, 14}, {13, 15}, {14, 15}};
+    static const Pair reading[] = {{1, 2}, {2, 4}, {2, 6}, {4, 6}};
     printf("ends alone: %lu times a record to keep, %lu times a packet sent\n", ends.kept, ends.sent);
     int steps = enough_steps(&ends, "ends alone");
+    steps = enough_answers(&ends, "ends alone", "PQDSC") && steps;
+    steps = enough_rules(&reads, "A of ends alone", 1u << 1 | 1u << 2 | 1u << 4 | 1u << 6, reading, 4) && steps;
     return enough_rules(&ends, "packets and ends alone", 0xFFFEu & ~(1u << 3 | 1u << 9 | 1u << 10), known, sizeof known / sizeof *known) &&
            steps && ends.kept >= LEAST && ends.sent >= LEAST;
 }

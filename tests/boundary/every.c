@@ -1,5 +1,5 @@
 /* Each bit turned, one at a time: of valid packets of each kind, of number records of each end and version, of states in each mode. Then each
- * length of a record, and numbers at their corners. */
+ * length of a record, each byte in the place of a flag, and numbers at their corners. */
 #include "alone.h"
 
 #define LARGEST UINT32_MAX
@@ -16,6 +16,7 @@ static Console console_in(uint32_t mode, int down, Numbers numbers) {
     Console c = fresh_console(0);
     c.numbers = numbers;
     c.down = down;
+    c.ack_ok = roll(2);
     c.held = mode != 0;
     if (mode == 1) c.j = 1 + roll(4);
     if (mode == 2) c.last = 1 + roll(4);
@@ -148,7 +149,7 @@ static void every_block(void) {
 
 /* The state in the box: every letter, a packet of every kind for the one that takes it, and the number record. */
 static void state_everywhere(int controller) {
-    for (size_t i = 0; i < sizeof LETTERS - 1; i++)
+    for (size_t i = 0; i < ACTIONS; i++)
         for (uint8_t kind = NEED_I; kind <= DONE; kind++) {
             asked.letter = (uint8_t)LETTERS[i];
             good_packet(kind);
@@ -169,6 +170,20 @@ static void every_state_bit(int controller, Numbers numbers) {
                 if (controller) good_controller(mode, down, numbers);
                 else good_console(mode, down, numbers);
                 turn(box.state, i);
+                state_everywhere(controller);
+            }
+}
+
+/* Each byte in the place of each flag, in each mode. */
+static void every_flag(int controller) {
+    static const size_t flags[2][3] = {{CONSOLE_HELD, CONSOLE_UP, CONSOLE_ACK}, {CONTROLLER_UP}};
+    for (size_t k = 0; k < (controller ? 1 : 3); k++)
+        for (uint32_t mode = 0; mode < 3; mode++)
+            for (uint32_t byte = 0; byte < 256; byte++) {
+                next_case();
+                if (controller) good_controller(mode, 0, rounds[0]);
+                else good_console(mode, 0, rounds[0]);
+                box.state[flags[controller][k]] = (uint8_t)byte;
                 state_everywhere(controller);
             }
 }
@@ -196,6 +211,8 @@ void all_ends(void) {
         every_state_bit(1, rounds[round]);
     }
     every_block();
-    every_corner(0);
-    every_corner(1);
+    for (int controller = 0; controller < 2; controller++) {
+        every_flag(controller);
+        every_corner(controller);
+    }
 }

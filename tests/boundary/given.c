@@ -33,6 +33,7 @@ static Console good_console(void) {
     uint32_t mode = roll(3);
     c.numbers = used_numbers(mode == 1);
     c.down = roll(4) == 0;
+    c.ack_ok = roll(2);
     if (mode == 0) return c;
     c.held = true;
     some_cells(c.message);
@@ -138,7 +139,7 @@ static void some_place(void) {
 }
 
 void some_call(void) {
-    call.letter = some_letter("PPQDSSSCVOKRRRRXYLM");
+    call.letter = some_letter("PPQDSSSCVOKRRRRXYLMA");
     call.copies = roll(4) ? roll(4) : roll(2) ? 4 : some_huge();
     some_message(given.message);
     some_place();
@@ -161,7 +162,7 @@ static void spoil_numbers(uint8_t *s) {
 static void spoil_console(void) {
     uint8_t *s = given.state;
     switch (roll(8)) {
-    case 0: s[CONSOLE_HELD + roll(2)] = (uint8_t)(2 + roll(254)); break;
+    case 0: s[CONSOLE_HELD + roll(3)] = (uint8_t)(2 + roll(254)); break;
     case 1: s[CONSOLE_HELD] ^= 1; break;
     case 2: set_number(s + AT_J, some_number()); break;
     case 3: set_number(s + CONSOLE_LAST, some_number()); break;

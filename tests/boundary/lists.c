@@ -14,6 +14,19 @@ static uint8_t input[AROUND + MOST_INPUT + AROUND], input2[sizeof input];
 static unsigned long lists, records_read;
 static uint8_t output[AROUND + MOST_OUTPUT + AROUND], output2[sizeof output];
 
+/* What A printed, and how often. */
+static struct {
+    const char *printed;
+    unsigned long times;
+} reads[] = {{"OK", 0}, {"LO", 0}, {"04", 0}, {"06", 0}};
+
+enum { READS = sizeof reads / sizeof *reads };
+
+static void count_reads(const uint8_t *lines, size_t n) {
+    for (; n; n -= LINE_BYTES, lines += LINE_BYTES)
+        for (int i = 0; i < READS; i++) reads[i].times += lines[5] == 'A' && !memcmp(lines + 7, reads[i].printed, 2);
+}
+
 /* Gives the length: mostly of tens of records, seldom of more than are read. */
 static size_t some_list(uint8_t *bytes) {
     static Generator g;
@@ -55,6 +68,16 @@ void one_list(void) {
     check(!memcmp(input, input2, sizeof input) && !memcmp(output, output2, sizeof output));
     lists++;
     records_read += written / LINE_BYTES;
+    count_reads(output2 + AROUND, written);
 }
 
-void tell_lists(void) { printf("lists: %lu, of %lu records\n", lists, records_read); }
+int enough_lists(void) {
+    int all = 1;
+    printf("lists: %lu, of %lu records; A printed", lists, records_read);
+    for (int i = 0; i < READS; i++) {
+        if (reads[i].times < LEAST) all = 0;
+        printf(" %s: %lu", reads[i].printed, reads[i].times);
+    }
+    printf("\n");
+    return all;
+}

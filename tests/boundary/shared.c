@@ -108,16 +108,16 @@ size_t some_length(size_t right) {
 
 uint8_t some_letter(const char *own) {
     if (roll(16) == 0) return (uint8_t)roll(256);
-    if (roll(10) == 0) return (uint8_t)LETTERS[roll(13)];
+    if (roll(10) == 0) return (uint8_t)LETTERS[roll(ACTIONS)];
     return (uint8_t)own[roll((uint32_t)strlen(own))];
 }
 
 /* A packet whose numbers are often those in the state's bytes. */
 void some_packet(uint8_t *bytes, const uint8_t *state) {
-    static const size_t numbers_at[] = {AT_USED, AT_RESERVED, AT_J, CONTROLLER_I, CONTROLLER_LAST};
+    static const size_t numbers_at[] = {AT_USED, AT_RESERVED, AT_J, CONSOLE_LAST, CONTROLLER_I, CONTROLLER_LAST};
     Packet p = make_packet((uint8_t)(1 + roll(6)), some_number(), 0);
     scribble(bytes, ROOM);
-    if (roll(3) != 0) p.first = get_number(state + numbers_at[roll(5)]);
+    if (roll(3) != 0) p.first = get_number(state + numbers_at[roll(6)]);
     if (p.first == 0 && roll(8) != 0) p.first = 1 + roll(4);
     if (p.kind == OFFER) p.second = roll(4) == 0 ? some_number() : 1 + roll(4);
     if (p.kind == DATA) some_message(p.message);
@@ -172,6 +172,7 @@ void console_to(const Console *c, uint8_t *s) {
     set_number(s + CONSOLE_LAST, c->last);
     s[CONSOLE_HELD] = c->held;
     s[CONSOLE_UP] = !c->down;
+    s[CONSOLE_ACK] = c->ack_ok;
     memcpy(s + CONSOLE_MESSAGE, c->message, CELLS);
 }
 
@@ -179,12 +180,13 @@ void console_to(const Console *c, uint8_t *s) {
 Console console_from(const uint8_t *s, size_t n) {
     Console c = fresh_console(0);
     c.j = 1;
-    if (n != NOOSELESS_CONSOLE_STATE_LEN || s[CONSOLE_HELD] > 1 || s[CONSOLE_UP] > 1) return c;
+    if (n != NOOSELESS_CONSOLE_STATE_LEN || s[CONSOLE_HELD] > 1 || s[CONSOLE_UP] > 1 || s[CONSOLE_ACK] > 1) return c;
     c.numbers = numbers_from(s);
     c.j = get_number(s + AT_J);
     c.last = get_number(s + CONSOLE_LAST);
     c.held = s[CONSOLE_HELD];
     c.down = !s[CONSOLE_UP];
+    c.ack_ok = s[CONSOLE_ACK];
     memcpy(c.message, s + CONSOLE_MESSAGE, CELLS);
     return c;
 }
@@ -240,6 +242,16 @@ void moved(struct tally *t, uint8_t letter, const Numbers *before, const Numbers
     t->capped += more != 0 && more < before->block;
 }
 
+/* S that lets go of the message has its answer. What was so before shows nothing, but for an OK that is left. */
+void answered(struct tally *t, uint8_t letter, const Console *before, const Console *after) {
+    int has_answer = letter == 'S' && before->held && !after->held;
+    if (before->ack_ok && after->ack_ok && !has_answer) t->ok_left[letter]++;
+    if (before->ack_ok == after->ack_ok) return;
+    if (has_answer) t->acks[after->ack_ok ? OK_STORED : LOST_STORED]++;
+    else if (letter == 'V') t->acks[LOST_BY_BACK]++;
+    else if (letter == 'A') t->acks[LOST_BY_READING]++;
+}
+
 void count(struct tally *t, int refusal, unsigned rules) {
     t->met[refusal]++;
     for (unsigned a = 1; a < 16; a++)
@@ -281,5 +293,25 @@ int enough_steps(struct tally *t, const char *name) {
            t->grown, t->capped, t->back);
     for (int i = NOTHING; i <= ANSWERED_LOST; i++)
         if (t->told[i] < LEAST) all = 0;
+    return all;
+}
+
+/* Whether the ack moved in each way, and was left by each of these letters, LEAST times. */
+int enough_answers(struct tally *t, const char *name, const char *leaving) {
+    static const char *const ways[ACK_WAYS] = {"OK stored over lost", "lost stored over OK", "OK lost by coming back", "by reading",
+        "an ack that is no flag"};
+    int all = 1;
+    printf("%s: ", name);
+    for (int way = 0; way < ACK_WAYS; way++) {
+        if (t->acks[way] < LEAST) all = 0;
+        printf("%s%s: %lu", way ? ", " : "", ways[way], t->acks[way]);
+    }
+    printf("\n  OK left by");
+    for (; *leaving; leaving++) {
+        unsigned long left = t->ok_left[(uint8_t)*leaving];
+        if (left < LEAST) all = 0;
+        printf(" %c: %lu", *leaving, left);
+    }
+    printf("\n");
     return all;
 }

@@ -10,20 +10,26 @@
 
 #define LEAST 1000u
 #define ROOM 48u /* a lent buffer with what follows it */
-#define LETTERS "PQDSCVOKRXYLM"
+#define LETTERS "PQDSCVOKRXYLMA"
+#define ACTIONS (sizeof LETTERS - 1)
+
+/* How an answer that was not read yet is replaced or lost, and an ack that is no flag in a state that is else well formed. */
+enum ack_way { OK_STORED, LOST_STORED, LOST_BY_BACK, LOST_BY_READING, NO_ACK, ACK_WAYS };
 
 /* How often each refusal was met (0: accepted), each pair of refusals that apply together, each report, each bit beside a report, and each way
- * in which numbers moved. */
+ * in which numbers and the ack moved. */
 struct tally {
     unsigned long met[16], pairs[16][16], told[5], kept, sent;
     unsigned long within, grown, capped, back; /* taken within the block, by growing, by growing less than the block; used up by coming back */
+    unsigned long acks[ACK_WAYS], ok_left[256]; /* by letter: an OK that the step left unread */
 };
 
 /* Where the fields are in an end's state, and the counts in a bench's: laid out a second time. */
 enum { AT_USED = 0, AT_RESERVED = 4, AT_BLOCK = 8, AT_J = 10 };
-enum { CONSOLE_LAST = 14, CONSOLE_HELD = 18, CONSOLE_UP = 19, CONSOLE_MESSAGE = 20 };
+enum { CONSOLE_LAST = 14, CONSOLE_HELD = 18, CONSOLE_UP = 19, CONSOLE_ACK = 20, CONSOLE_MESSAGE = 21 };
 enum { CONTROLLER_I = 14, CONTROLLER_LAST = 18, CONTROLLER_UP = 22 };
-enum { BENCH_CONTROLLER = 36, BENCH_OUT = 59, BENCH_BACK = 60 };
+enum { BENCH_CONTROLLER = 37, BENCH_OUT = 60, BENCH_BACK = 61 };
+_Static_assert(NOOSELESS_VERSION == 3 && NOOSELESS_CONSOLE_STATE_LEN == 37 && NOOSELESS_BENCH_STATE_LEN == 62, "the states laid out here");
 
 extern struct tally ends, benches;
 extern const char *entry; /* what is called */
@@ -63,11 +69,13 @@ int first_of(unsigned rules);      /* in document 01's order, or 0 */
 
 uint8_t told_by(struct tally *t, const Outcome *o, int keep); /* keep: the end's number record is another than before */
 void moved(struct tally *t, uint8_t letter, const Numbers *before, const Numbers *after);
+void answered(struct tally *t, uint8_t letter, const Console *before, const Console *after); /* by an accepted step */
 void count(struct tally *t, int refusal, unsigned rules);
 
 typedef int Pair[2];
 int enough_rules(struct tally *t, const char *name, unsigned refusals, const Pair *known, size_t n);
 int enough_steps(struct tally *t, const char *name);
+int enough_answers(struct tally *t, const char *name, const char *leaving); /* leaving: the letters that leave the ack */
 
 /* ---- what is compared: wire.c, records.c, ends.c, every.c, benches.c, lists.c ---- */
 
@@ -78,7 +86,7 @@ void one_of_benches(void);
 void one_list(void);
 void all_ends(void);
 void all_benches(void);
-void tell_lists(void);
+int enough_lists(void);
 int enough_ends(void);
 int enough_records(void);
 int enough_benches(void);

@@ -1,8 +1,8 @@
 /*
  * The stack of the entries, on a painted stack, while a console and a controller talk over a link that loses, repeats and damages,
  * each alone and both on a bench, and while lists are played: stack STEPS SEED. Prints the most bytes that each entry used, its arguments and
- * return address included; ends with 1 if that is more than the entry may use, with 3 if an order was never delivered, answered OK and
- * answered lost, by ends alone or on the bench.
+ * return address included; ends with 1 if that is more than the entry may use, with 3 if an order was never delivered, or OK and lost never
+ * came in and were read, by ends alone or on the bench.
  */
 #include <stdio.h>
 #include <stdlib.h>
@@ -88,7 +88,8 @@ enum { CONSOLE_STEP = 2, CONTROLLER_STEP = 3, RECORD = 4, DOWNED = 6, BENCH_FRES
 static struct chance chance;
 static size_t most[sizeof entries / sizeof *entries];
 static size_t bare;
-static unsigned long seen[2][NOOSELESS_ANSWER_LOST + 1]; /* by ends alone, on the bench */
+static unsigned long seen[2][NOOSELESS_ANSWER_LOST + 1], came_in[2][2]; /* by ends alone, on the bench; lost, OK */
+enum { HELD = 18, ACK = 20 };                                           /* of a console's state */
 
 static void run(int which) {
     size_t n = used_by(entries[which].run) - bare;
@@ -96,15 +97,20 @@ static void run(int which) {
 }
 
 static void stepped(int which) {
+    int whole = which == BENCH_STEP;
+    const uint8_t *state = whole ? bench : console;
+    int held = state[HELD];
     run(which);
-    if (!nooseless_is_refusal(told)) seen[which == BENCH_STEP][nooseless_report(told)]++;
+    if (nooseless_is_refusal(told)) return;
+    seen[whole][nooseless_report(told)]++;
+    if (letter == 'S' && held && !state[HELD]) came_in[whole][state[ACK]]++;
 }
 
 /* An end's step, now and then after power loss. */
 static void alone(void) {
     static uint8_t air[2][16][NOOSELESS_PACKET_LEN];
     int end = (int)below(&chance, 2);
-    letter = (uint8_t)(end ? "OKRRRRRR" : "PQDSSSSS")[below(&chance, 8)];
+    letter = (uint8_t)(end ? "OKRRRRRRR" : "PQDSSSSSA")[below(&chance, 9)];
     memcpy(in, air[end][below(&chance, 3) ? 0 : below(&chance, 16)], sizeof in);
     if (below(&chance, 50) == 0) in[below(&chance, sizeof in)] ^= 1;
     stepped(end ? CONTROLLER_STEP : CONSOLE_STEP);
@@ -129,7 +135,7 @@ static void alone(void) {
 
 /* A step of the bench, which comes back at once when it goes down. */
 static void together(void) {
-    letter = (uint8_t)"PQDSSSSOKRRRRLMPQDSSSSOKRRRRLMCX"[below(&chance, 32)];
+    letter = (uint8_t)"PQDSSSSOKRRRRLMPQDSSSSOKRRRRLMCXAA"[below(&chance, 34)];
     place = below(&chance, 3) ? 0 : below(&chance, 66);
     copies = below(&chance, 3);
     stepped(BENCH_STEP);
@@ -142,15 +148,16 @@ static void together(void) {
 static void played(void) {
     for (uint8_t *r = list; r < list + sizeof list; r += NOOSELESS_LIST_RECORD_LEN) {
         memcpy(r, "P000                \n", NOOSELESS_LIST_RECORD_LEN);
-        r[0] = (uint8_t)"PQDSSSSCVOKRRRRXYLM?"[below(&chance, 20)];
+        r[0] = (uint8_t)"PQDSSSSCVOKRRRRXYLMA?"[below(&chance, 21)];
         if (strchr("QDSOKR", r[0])) r[3] = (uint8_t)('0' + below(&chance, 4));
     }
     run(RUN);
 }
 
-static int all_seen(const unsigned long *told_of) {
-    printf("; %lu delivered, %lu OK, %lu lost", told_of[NOOSELESS_DELIVERED], told_of[NOOSELESS_ANSWER_OK], told_of[NOOSELESS_ANSWER_LOST]);
-    return told_of[NOOSELESS_DELIVERED] && told_of[NOOSELESS_ANSWER_OK] && told_of[NOOSELESS_ANSWER_LOST];
+static int all_seen(const unsigned long *told_of, const unsigned long *came) {
+    printf("; %lu delivered, %lu OK and %lu lost came in, %lu OK and %lu lost read", told_of[NOOSELESS_DELIVERED], came[1], came[0],
+           told_of[NOOSELESS_ANSWER_OK], told_of[NOOSELESS_ANSWER_LOST]);
+    return told_of[NOOSELESS_DELIVERED] && came[1] && came[0] && told_of[NOOSELESS_ANSWER_OK] && told_of[NOOSELESS_ANSWER_LOST];
 }
 
 int main(int argc, char **argv) {
@@ -171,7 +178,7 @@ int main(int argc, char **argv) {
         printf("%s%s %zu", i ? ", " : "stack in bytes: ", entries[i].name, most[i]);
         if (most[i] > entries[i].allowed) deep = 1;
     }
-    int ends = all_seen(seen[0]), benches = all_seen(seen[1]);
+    int ends = all_seen(seen[0], came_in[0]), benches = all_seen(seen[1], came_in[1]);
     printf("\n");
     return deep ? 1 : ends && benches ? 0 : 3;
 }

@@ -15,11 +15,17 @@ static uint8_t seen_step(uint8_t *s, size_t s_len, uint8_t letter, const uint8_t
 
 #define nooseless_console_step seen_step
 #include "console_loop.c"
+#undef nooseless_console_step
+
+uint8_t console_reads_spare(void) {
+    if (waiting) return NOOSELESS_ANSWER_LOST;
+    return nooseless_console_step(state, sizeof state, NOOSELESS_READ_ANSWER, order, heard, 0, reply, 0);
+}
 
 void console_forget(void) {
     memset(state, 0xEE, sizeof state);
     memset(order, 0xEE, sizeof order);
     memset(reply, 0xEE, sizeof reply);
     memset(heard, 0xEE, sizeof heard);
-    holding = 1;
+    waiting = 1;
 }

@@ -2,7 +2,7 @@
  * Both loops over a radio that does anything but invent, with power cuts before and after everything that a loop does, each byte of a record
  * that is being kept included: cuts TURNS SEED. Every choice is the seed's. While a box is off, a person may carry its record back to version 1,
  * or give it another block. Demand 3 is judged by rows and doses, and the rule of nooseless.h held to every step: what it leaves to be done is
- * done in the rule's order before the next.
+ * done in the rule's order before the next. Rows outlive a cut, so that a console which comes back knows of the one that waits for its answer.
  *
  * Ends with 0, with 1 if demand 3 is broken, with 3 if too little happened, with 4 if the rule is broken, a number came that was never given or
  * one was used twice.
@@ -19,6 +19,7 @@
 #define CUT 400 /* one in so many moments */
 #define TORN 100 /* one in so many bytes of a record that is written */
 #define SERVICE 10 /* one in so many starts comes after a person was at the record */
+#define SPARE 16 /* one in so many turns of the console ends with a reading that is nobody's answer */
 
 static struct chance chance;
 static jmp_buf power;
@@ -166,7 +167,7 @@ static void service(int end) {
 
 static uint8_t air[2][AIR][NOOSELESS_PACKET_LEN]; /* sent by an end */
 static unsigned long flown[2];
-static unsigned long given, came_back; /* the order that was given last; the turn of the controller's last start */
+static unsigned long given, came_back[2]; /* the order that was given last; the turn of an end's last start */
 
 /* needI(J) and offer(J, I): the J names one put, the I one permission, so a number that comes again is of the same order, or of the same run. */
 static void numbered(int end, const uint8_t *packet) {
@@ -177,7 +178,7 @@ static void numbered(int end, const uint8_t *packet) {
     if (nooseless_read_packet(packet, NOOSELESS_PACKET_LEN, &kind, &first, &second, message) != 0) return;
     if (kind != (end == CONSOLE ? NOOSELESS_KIND_NEEDI : NOOSELESS_KIND_OFFER)) return;
     uint32_t number = end == CONSOLE ? first : second;
-    unsigned long of = end == CONSOLE ? given : came_back;
+    unsigned long of = end == CONSOLE ? given : came_back[CONTROLLER];
     if (number < top[end] || (number == top[end] && names[end] != of)) reused++;
     top[end] = number;
     names[end] = of;
@@ -215,12 +216,14 @@ static int hear(int end, uint8_t *bytes, int room) {
 /* ---- Rows and doses, and demand 3 of them ---- */
 
 struct order {
-    unsigned long put, ok, lost, dosed; /* the turn, 0 for never */
+    unsigned long put, lost, dosed; /* the turn, 0 for never */
+    int unsure; /* lost after a restart of the console */
 };
 
 static struct order *orders;
-static unsigned long room, latest, held;
-static unsigned long asked, doses, oks, losts, twice, astray, unasked, early_ok, after_lost, no_reason;
+static unsigned long room, latest, waiting; /* waiting: the order whose row has no answer yet, 0 for none */
+static unsigned long asked, doses, oks, losts, unsure, dosed_after; /* dosed_after: delivered after a lost that was unsure */
+static unsigned long twice, astray, unasked, early_ok, kept_ok, after_lost, no_reason, spare;
 
 static unsigned long number_of(const uint8_t *cells) {
     unsigned long n = 0;
@@ -242,23 +245,27 @@ static void dose(const uint8_t *cells) {
     if (!o->put) unasked++;
     if (o->dosed) twice++;
     if (n < latest) astray++;
-    if (o->lost) after_lost++;
+    if (o->lost && o->unsure) dosed_after++;
+    if (o->lost && !o->unsure) after_lost++;
     o->dosed = now;
     if (n > latest) latest = n;
 }
 
 static void answer(uint8_t told, const uint8_t *cells) {
     struct order *o = order_of(cells);
-    if (held != (unsigned long)(o - orders)) unasked++;
-    held = 0;
+    int restarted = came_back[CONSOLE] > o->put;
+    if (waiting != (unsigned long)(o - orders)) unasked++;
+    waiting = 0;
     if (told == NOOSELESS_ANSWER_OK) {
         oks++;
-        o->ok = now;
         if (!o->dosed) early_ok++;
+        if (restarted) kept_ok++;
     } else {
         losts++;
+        unsure += restarted;
         o->lost = now;
-        if (came_back <= o->put) no_reason++;
+        o->unsure = restarted;
+        if (!restarted && came_back[CONTROLLER] <= o->put) no_reason++;
     }
 }
 
@@ -282,17 +289,29 @@ int console_due(void) { return below(&chance, 2) == 0; }
 int controller_due(void) { return below(&chance, 2) == 0; }
 void controller_alarm(void) { alarms++; }
 
-int console_order(uint8_t order[NOOSELESS_MESSAGE_LEN]) {
+static void cells_of(uint8_t order[NOOSELESS_MESSAGE_LEN], unsigned long n) {
     char text[NOOSELESS_MESSAGE_LEN + 1];
+    snprintf(text, sizeof text, "ORDER %010lu", n % 10000000000u);
+    memcpy(order, text, NOOSELESS_MESSAGE_LEN);
+}
+
+/* Asked once the console is back. */
+int console_unanswered(uint8_t order[NOOSELESS_MESSAGE_LEN]) {
+    came_back[CONSOLE] = now;
+    may_fail();
+    if (waiting) cells_of(order, waiting);
+    return waiting != 0;
+}
+
+int console_order(uint8_t order[NOOSELESS_MESSAGE_LEN]) {
     if (below(&chance, 4) != 0) return 0; /* so that it is idle at times, and hears what is of an order before */
     if (given + 1 >= room) {
         room = 2 * room + 64;
         orders = realloc(orders, room * sizeof *orders);
         if (!orders) exit(2);
     }
-    snprintf(text, sizeof text, "ORDER %010lu", ++given % 10000000000u);
-    memset(&orders[given], 0, sizeof *orders);
-    memcpy(order, text, NOOSELESS_MESSAGE_LEN);
+    memset(&orders[++given], 0, sizeof *orders);
+    cells_of(order, given);
     return 1;
 }
 
@@ -302,10 +321,10 @@ void console_show(uint8_t told, const uint8_t order[NOOSELESS_MESSAGE_LEN]) {
     if (told == NOOSELESS_ANSWER_OK || told == NOOSELESS_ANSWER_LOST) {
         answer(told, order);
     } else {
-        rule(told == NOOSELESS_NOTHING);
+        rule(told == NOOSELESS_NOTHING && !waiting);
         struct order *o = order_of(order);
         o->put = now;
-        held = (unsigned long)(o - orders);
+        waiting = (unsigned long)(o - orders);
         asked++;
     }
     may_fail();
@@ -325,7 +344,6 @@ static void goes_down(int end) {
     cuts[end]++;
     if (left[end].keep) between++;
     memset(&left[end], 0, sizeof *left);
-    if (end == CONSOLE) held = 0;
     if (end == CONSOLE) console_forget();
     else controller_forget();
 }
@@ -338,7 +356,7 @@ static void comes_back(int end) {
         exit(2);
     }
     on[end] = started[end] = 1;
-    if (end == CONTROLLER) came_back = now;
+    if (end == CONTROLLER) came_back[CONTROLLER] = now;
 }
 
 static void turn(int end) {
@@ -351,6 +369,7 @@ static void turn(int end) {
     else if (end == CONSOLE) console_turn();
     else controller_turn();
     rule(!left[end].keep && !left[end].show && !left[end].send);
+    if (end == CONSOLE && below(&chance, SPARE) == 0 && console_reads_spare() != NOOSELESS_ANSWER_LOST) spare++;
 }
 
 /* Half of the boxes were made before there were blocks. */
@@ -363,6 +382,19 @@ static void make(int end, uint8_t whose) {
     with_sum(places[end][1], record, length);
 }
 
+static void print_counts(unsigned long turns) {
+    printf("%lu turns, %lu cuts of the console, %lu of the controller, %lu between a step and its keeping, %lu starts with a torn record\n", turns,
+           cuts[CONSOLE], cuts[CONTROLLER], between, torn);
+    printf("%lu orders, %lu doses, %lu OK, %lu lost, %lu junk\n", asked, doses, oks, losts, junk);
+    printf("%lu of the lost after a restart of the console, %lu of these delivered afterwards\n", unsure, dosed_after);
+    printf("%lu keepings, %lu of them of a block that was used up, %lu starts from a record of version 1\n", keepings, used_up, old_starts);
+    printf("delivered twice %lu, out of order %lu, OK without delivery %lu, OK after a restart of the console %lu, delivered after lost %lu\n", twice,
+           astray, early_ok, kept_ok, after_lost);
+    printf("delivered or answered unasked %lu, lost with no restart since the put %lu, spare readings other than lost %lu\n", unasked, no_reason,
+           spare);
+    printf("the rule broken %lu, numbers never given %lu, used twice %lu\n", broken, alarms, reused);
+}
+
 int main(int argc, char **argv) {
     if (argc != 3) return 2;
     unsigned long turns = strtoul(argv[1], NULL, 10);
@@ -373,17 +405,11 @@ int main(int argc, char **argv) {
     make(CONSOLE, NOOSELESS_CONSOLE);
     make(CONTROLLER, NOOSELESS_CONTROLLER);
     for (now = 1; now <= turns; now++) turn((int)below(&chance, 2));
-    printf("%lu turns, %lu cuts of the console, %lu of the controller, %lu between a step and its keeping, %lu starts with a torn record\n", turns,
-           cuts[CONSOLE], cuts[CONTROLLER], between, torn);
-    printf("%lu orders, %lu doses, %lu OK, %lu lost, %lu junk\n", asked, doses, oks, losts, junk);
-    printf("%lu keepings, %lu of them of a block that was used up, %lu starts from a record of version 1\n", keepings, used_up, old_starts);
-    printf("delivered twice %lu, out of order %lu, OK without delivery %lu, delivered after lost %lu\n", twice, astray, early_ok, after_lost);
-    printf("delivered or answered unasked %lu, lost with no restart of the controller since the put %lu\n", unasked, no_reason);
-    printf("the rule broken %lu, numbers never given %lu, used twice %lu\n", broken, alarms, reused);
-    if (twice + astray + early_ok + after_lost + unasked + no_reason > 0) return 1;
+    print_counts(turns);
+    if (twice + astray + early_ok + kept_ok + after_lost + unasked + no_reason + spare > 0) return 1;
     if (broken + alarms + reused > 0) return 4;
-    return asked < turns / 100 || oks < turns / 200 || losts < turns / 10000 || between < turns / 10000 || torn < turns / 10000 ||
-                   used_up < turns / 10000 || old_starts < turns / 10000
+    return asked < turns / 100 || oks < turns / 200 || losts - unsure < turns / 10000 || unsure < turns / 10000 || between < turns / 10000 ||
+                   torn < turns / 10000 || used_up < turns / 10000 || old_starts < turns / 10000
                ? 3
                : 0;
 }

@@ -1,6 +1,6 @@
 /*
- * The header's names beside the archive: version, lengths, blocks and number records, letters, the byte of a step, and buffers that lie at any
- * address. Prints what is otherwise and ends with 1.
+ * The header's names beside the archive: version, lengths, blocks and number records, letters, the ack, the byte of a step, and buffers that lie
+ * at any address. Prints what is otherwise and ends with 1.
  */
 #include "nooseless.h"
 
@@ -70,7 +70,7 @@ static void records(void) {
 /* Each byte: a letter of the header's, of that end's, or no action. A letter that is one is refused for another reason, or not at all. */
 static void letters(void) {
     static const uint8_t of_console[] = {NOOSELESS_PUT, NOOSELESS_SEND_NEEDI, NOOSELESS_SEND_DATA, NOOSELESS_CONSOLE_TAKE, NOOSELESS_CONSOLE_DOWN,
-                                         NOOSELESS_CONSOLE_BACK, 0};
+                                         NOOSELESS_CONSOLE_BACK, NOOSELESS_READ_ANSWER, 0};
     static const uint8_t of_controller[] = {NOOSELESS_SEND_OFFER, NOOSELESS_SEND_OK, NOOSELESS_CONTROLLER_TAKE, NOOSELESS_CONTROLLER_DOWN,
                                             NOOSELESS_CONTROLLER_BACK, 0};
     static const uint8_t of_bench[] = {NOOSELESS_LOSE_TO_CONTROLLER, NOOSELESS_LOSE_TO_CONSOLE, 0};
@@ -83,6 +83,36 @@ static void letters(void) {
              "the controller's letters");
         want((nooseless_bench_step(bench, 0, out, 0, back, 0, letter, 0, 0, message, delivered) != NOOSELESS_NO_ACTION) == any, "the bench's letters");
     }
+}
+
+/* The console's ack is byte 20 of its state and of a bench's: 1 is read as OK, once, and nothing above 1 is a state. It does not outlive a
+ * restart. A looks at no packet and at no reply buffer. */
+static void ack(void) {
+    uint8_t of_state[NOOSELESS_RECORD_LEN];
+    nooseless_console_fresh(console, NOOSELESS_CONSOLE_STATE_LEN, 7);
+    want(console[20] == 0, "a fresh console's ack");
+    console[20] = 1;
+#define ASK(letter) nooseless_console_step(console, NOOSELESS_CONSOLE_STATE_LEN, letter, message, packet, 0, reply, 0)
+#define READ ASK(NOOSELESS_READ_ANSWER)
+    want(READ == NOOSELESS_ANSWER_OK && console[20] == 0 && READ == NOOSELESS_ANSWER_LOST, "an ack that is read");
+    console[20] = 1;
+    want(ASK(NOOSELESS_CONSOLE_DOWN) == 0 && console[20] == 1 && ASK(NOOSELESS_CONSOLE_BACK) == 0 && READ == NOOSELESS_ANSWER_LOST,
+         "an ack when the console comes back");
+    want(nooseless_console_record(console, NOOSELESS_CONSOLE_STATE_LEN, of_state, sizeof of_state) == 0, "a record");
+    console[20] = 2;
+    want(READ == NOOSELESS_ILL_FORMED, "an ack above 1");
+    want(nooseless_console_record(console, NOOSELESS_CONSOLE_STATE_LEN, record, NOOSELESS_RECORD_LEN) == NOOSELESS_ILL_FORMED,
+         "a record with an ack above 1");
+    want(nooseless_console_downed(console, NOOSELESS_CONSOLE_STATE_LEN, of_state, sizeof of_state) == 0 && console[20] == 0,
+         "an ack after power loss");
+    nooseless_bench_fresh(bench, NOOSELESS_BENCH_STATE_LEN, out, NOOSELESS_TABLE_LEN, back, NOOSELESS_TABLE_LEN, 0, 0);
+    bench[20] = 1;
+#define READ_BENCH                                                                                                                                 \
+    nooseless_bench_step(bench, NOOSELESS_BENCH_STATE_LEN, out, NOOSELESS_TABLE_LEN, back, NOOSELESS_TABLE_LEN, NOOSELESS_READ_ANSWER, SIZE_MAX, SIZE_MAX, \
+                         message, delivered)
+    want(READ_BENCH == NOOSELESS_ANSWER_OK && READ_BENCH == NOOSELESS_ANSWER_LOST, "a bench's ack that is read");
+    bench[20] = 2;
+    want(READ_BENCH == NOOSELESS_ILL_FORMED, "a bench's ack above 1");
 }
 
 /* What a byte that a step may return is; and that an argument is used once. */
@@ -125,13 +155,17 @@ static void at(size_t by) {
     want(memcmp(d, message, NOOSELESS_MESSAGE_LEN) == 0, "the cells delivered");
     want(STEP_BACK(NOOSELESS_SEND_OFFER) == NOOSELESS_OTHER_MODE, "O in ack");
     want(STEP_BACK(NOOSELESS_SEND_OK) == (NOOSELESS_NOTHING | NOOSELESS_SENT), "K");
-    want(STEP(NOOSELESS_CONSOLE_TAKE) == (NOOSELESS_ANSWER_OK | NOOSELESS_SENT), "S of OK");
+    want(STEP(NOOSELESS_READ_ANSWER) == NOOSELESS_OTHER_MODE, "A with a message held");
+    want(STEP(NOOSELESS_CONSOLE_TAKE) == (NOOSELESS_NOTHING | NOOSELESS_SENT), "S of OK");
+    want(STEP(NOOSELESS_READ_ANSWER) == NOOSELESS_ANSWER_OK, "A after OK");
+    want(STEP(NOOSELESS_READ_ANSWER) == NOOSELESS_ANSWER_LOST, "A a second time");
     want(STEP_BACK(NOOSELESS_CONTROLLER_TAKE) == NOOSELESS_NOTHING, "R of done");
     want(STEP_BACK(NOOSELESS_SEND_OK) == NOOSELESS_OTHER_MODE, "K when idle");
     want(STEP(NOOSELESS_PUT) == NOOSELESS_NOTHING, "P of the block's second number");
     want(STEP(NOOSELESS_SEND_NEEDI) == (NOOSELESS_NOTHING | NOOSELESS_SENT), "the second Q");
     want(STEP_BACK(NOOSELESS_CONTROLLER_TAKE) == NOOSELESS_NOTHING, "R of needI within the block");
-    want(STEP(NOOSELESS_CONSOLE_DOWN) == NOOSELESS_NOTHING && STEP(NOOSELESS_CONSOLE_BACK) == NOOSELESS_NOTHING, "C and V");
+    want(STEP(NOOSELESS_CONSOLE_DOWN) == NOOSELESS_NOTHING && STEP(NOOSELESS_READ_ANSWER) == NOOSELESS_IS_DOWN, "C, and A with the console down");
+    want(STEP(NOOSELESS_CONSOLE_BACK) == NOOSELESS_NOTHING && STEP(NOOSELESS_READ_ANSWER) == NOOSELESS_ANSWER_LOST, "V, and A after it");
     want(STEP(NOOSELESS_PUT) == (NOOSELESS_NOTHING | NOOSELESS_KEEP), "P after coming back within the block");
 }
 
@@ -140,6 +174,7 @@ int main(void) {
     lengths();
     records();
     letters();
+    ack();
     bytes();
     for (size_t by = 0; by < 16; by++) at(by);
     return wrong;

@@ -20,11 +20,12 @@ use Rattle.rules.specs.Supply.{numbering}
 use Rattle.rules.specs.Letters as letters
 use Rattle.rules.specs.Letters.{Letter, line, letter, Asks, the-console, the-controller, neither-end, ConsoleAsk, ControllerAsk}
 use Rattle.rules.specs.Ends as rules
+use Rattle.rules.specs.Reading.{console-read-step}
 use Rattle.rules.specs.Bench.{Bench, Asked, at, asked-to, asks}
 use Rattle.rules.specs.Relabel.{in-packet}
 use Rattle.ends_console.specs.Fields.{consoleOk}
 use Rattle.ends_controller.specs.Fields.{controllerOk}
-use Rattle.ends_console.specs.FieldsAsRules.{consoleMeans}
+use Rattle.ends_console.specs.FieldsAsRules.{consoleReads}
 use Rattle.ends_controller.specs.FieldsAsRules.{controllerMeans}
 use Rattle.ends.specs.AsRules.{forConsole, forController, toConsole, toController}
 use Rattle.ends.specs.Packets.{headForConsole, headForController, readForConsole, readForController}
@@ -53,6 +54,7 @@ ConsoleActOf m p letters.to-send-data a = a ≡ rules.send-data
 ConsoleActOf m p ConsoleAsk.to-take a = (q : rules.ToConsole) × ((consoleHeard p ≡ some q) × (a ≡ rules.ConsoleAct.take (some q)))
 ConsoleActOf m p ConsoleAsk.to-go-down a = a ≡ rules.ConsoleAct.go-down
 ConsoleActOf m p ConsoleAsk.to-come-back a = a ≡ rules.ConsoleAct.come-back
+ConsoleActOf m p letters.to-tell-ack a = a ≡ rules.tell-ack
 
 abbrev pub ControllerActOf : List ℕ → ControllerAsk → rules.ControllerAct (List ℕ) → Type 0
 ControllerActOf p letters.to-send-offer a = a ≡ rules.send-offer
@@ -92,6 +94,7 @@ module _ (R : ℕ → Type 0) (one : R 1) (two : R 2) (twelve : R 12) (fifteen :
     console-asked ok ConsoleAsk.to-take acts = console-lent _ (console-hears ok acts (packetRead packet .head) refl good)
     console-asked ok ConsoleAsk.to-go-down acts = acts rules.ConsoleAct.go-down refl ok
     console-asked ok ConsoleAsk.to-come-back acts = acts rules.ConsoleAct.come-back refl ok
+    console-asked ok letters.to-tell-ack acts = acts rules.tell-ack refl ok
 
     pub console-by-act : (byte : ℕ) → ((l : Letter) (k : ConsoleAsk) → letter byte ≡ some l → line l .asks ≡ the-console k → ConsoleDoes k) → Q (consoleAlone c byte m packet reply)
     unfolding consoleAlone if_then_else_
@@ -164,6 +167,7 @@ takes (the-console letters.to-send-data) = 0
 takes (the-console ConsoleAsk.to-take) = 1
 takes (the-console ConsoleAsk.to-go-down) = 0
 takes (the-console ConsoleAsk.to-come-back) = 0
+takes (the-console letters.to-tell-ack) = 0
 takes (the-controller letters.to-send-offer) = 0
 takes (the-controller letters.to-send-ok) = 0
 takes (the-controller ControllerAsk.to-take) = 2
@@ -186,6 +190,7 @@ only-S letters.X-down e = absurd (clash e)
 only-S letters.Y-back e = absurd (clash e)
 only-S letters.L-lose e = absurd (clash e)
 only-S letters.M-lose e = absurd (clash e)
+only-S letters.A-ack e = absurd (clash e)
 
 only-R : (l : Letter) → takes (line l .asks) ≡ 2 → l ≡ letters.R-take
 unfolding line
@@ -202,6 +207,7 @@ only-R letters.X-down e = absurd (unequal e refl)
 only-R letters.Y-back e = absurd (unequal e refl)
 only-R letters.L-lose e = absurd (unequal e refl)
 only-R letters.M-lose e = absurd (unequal e refl)
+only-R letters.A-ack e = absurd (unequal e refl)
 
 module _ {S : Type 0} (b : Bench S (List ℕ)) (c : Console) (ok : consoleOk c ≡ true) (m p y : List ℕ) where
   -- a packet that reads as one for the console lies at a place of the bench
@@ -218,12 +224,13 @@ module _ {S : Type 0} (b : Bench S (List ℕ)) (c : Console) (ok : consoleOk c �
       (x .0, ap (λ (z : Asks). asked-to z b (x .0) m) f ∙ ap (λ (o : Option rules.ToConsole). Asked.console (rules.ConsoleAct.take o)) (x .1) ∙ ap Asked.console (sym (g .1 .1)))
   console-place l ConsoleAsk.to-go-down a f h g = (0, ap (λ (z : Asks). asked-to z b 0 m) f ∙ ap Asked.console (sym g))
   console-place l ConsoleAsk.to-come-back a f h g = (0, ap (λ (z : Asks). asked-to z b 0 m) f ∙ ap Asked.console (sym g))
+  console-place l letters.to-tell-ack a f h g = (0, ap (λ (z : Asks). asked-to z b 0 m) f ∙ ap Asked.console (sym g))
 
   -- refused, or the console's step in the rules
   abbrev pub ConsoleCall : ℕ → ConsoleAlone → Type 0
   ConsoleCall byte d =
       ((n : ℕ) × (d ≡ consoleRefused n c y))
-      ⊎ ((l : Letter) × ((letter byte ≡ some l) × ((x : ℕ) × ((act : rules.ConsoleAct (List ℕ)) × ((asks b l x m ≡ Asked.console act) × (d ≡ consoleTold (rules.console-step numbering isMessage (consoleMeans c) act) y))))))
+      ⊎ ((l : Letter) × ((letter byte ≡ some l) × ((x : ℕ) × ((act : rules.ConsoleAct (List ℕ)) × ((asks b l x m ≡ Asked.console act) × (d ≡ consoleTold (console-read-step numbering isMessage (consoleReads c) act) y))))))
 
   pub console-call : (byte : ℕ) → (letter byte ≡ some letters.S-take → ConsoleFinds) → ConsoleCall byte (consoleAlone c byte m p y)
   unfolding consoleActs

@@ -20,6 +20,7 @@ use Rattle.wire.specs.declared.ReadHead.the-variants as read-head
 use Rattle.rules.specs.Supply.{numbering, Numbers}
 use Rattle.rules.specs.Letters.{Letter, line, letter, Asks, the-console, the-controller, neither-end}
 use Rattle.rules.specs.Ends as rules
+use Rattle.rules.specs.Reading.{Use, leaves, clears, tells, use-of, said, ack-after, reading, acted-read, console-read-step}
 use Rattle.rules.specs.Relabel.{in-packet, in-console, in-console-act}
 use Rattle.numbers.specs.Numbers.{numbersMeans}
 use Rattle.letters.specs.Lines.{foundOf, consoleAskMeans, asksMeans}
@@ -32,19 +33,22 @@ use Rattle.letters.specs.declared.Asks.the-variants as asked
 use Rattle.letters.specs.declared.Line.{Line}
 use Rattle.letters.specs.declared.Found.{Found}
 use Rattle.letters.specs.declared.Found.the-variants as found
-use Rattle.ends.specs.AsRules.{Beside, tested, toConsole, forConsole, forController, forControllerBack}
+use Rattle.ends.specs.AsRules.{Beside, tested, toConsole, forConsole, forController, forControllerBack, reportBack}
 use Rattle.ends_console.specs.AsRules.{mode, end, acted}
-use Rattle.ends_console.specs.Fields.{consoleOk, consoleRead, consoleEnd, consoleFields}
+use Rattle.ends_console.specs.Ack.{acked}
+use Rattle.ends_console.specs.Fields.{consoleOk, consoleRead, consoleEnd}
 use Rattle.ends_console.specs.FieldsAsRules.{consoleBack, consoleActed}
 use Rattle.ends.specs.Packets.{toControllerPacket, toControllerSent, headForConsole}
 use Rattle.ends_console.proofs.MessageBeside.{refusalOf, step-done, step-refused}
 use Rattle.ends_console.proofs.FieldsRead.{was-read, not-read}
 use Rattle.ends_console.proofs.Decisions.{same-for-controller}
-use Rattle.ends_console.proofs.FieldsAsRules.{unchanged}
+use Rattle.ends_console.proofs.FieldsAsRules.{unchanged, only-its-ack}
+use Rattle.ends_console.proofs.ShownReport.{acked-is}
 use Rattle.ends.specs.declared.ToConsole.{ToConsole}
 use Rattle.ends.specs.declared.ForConsole.{ForConsole}
 use Rattle.ends.specs.declared.ForConsole.the-variants as for-console
 use Rattle.ends.specs.declared.ForController.{ForController}
+use Rattle.ends_console.specs.declared.ack.Shown.{Shown}
 use Rattle.ends_console.specs.declared.Acted.{Acted}
 use Rattle.ends_console.specs.declared.End.{End}
 use Rattle.ends.specs.declared.Report.{Report}
@@ -55,7 +59,7 @@ use Rattle.ends_console.specs.declared.fields.ConsoleRead.the-variants.{IllForm
 use Rattle.alone.specs.declared.console.ConsoleOutcome.{ConsoleOutcome}
 use Rattle.alone.specs.Alone.{replied}
 use Rattle.alone.specs.ConsoleAlone.{ConsoleAlone, consoleRefused, consoleTold, consoleActs, consoleTakes, consoleHears, consoleLent, consoleAsked, consoleAsks, consoleLetter, consoleAlone}
-use Rattle.alone.specs.ConsolePrivate.{consoleTells, consoleSends}
+use Rattle.alone.specs.ConsolePrivate.{consoleDone, consoleTells, consoleSends}
 use Rattle.alone.proofs.ConsoleOutcome.{told, done-told, absent-told}
 
 -- what is told of a refusal
@@ -97,6 +101,10 @@ module _ (e : End) (good : Bool) where
   unfolding refusal first applies if_then_else_ rules.console-rules
   back-0 u = rw u
 
+  refuses-ack : first (rules.down-4 (e .up) ∷ (6, rules.holding (mode (e .mode))) ∷ []) ≡ refused-by rules.tell-ack
+  unfolding refusal first applies if_then_else_ rules.console-rules
+  refuses-ack = refl
+
 -- ## An act of a console that was read
 
 module _ {n : ℕ} (c : Console) (e : End) (read : consoleRead c ≡ Is e) (long : length (c .message) ≡ 16) (a : rules.ConsoleAct Beside) (m : List ℕ) (refuses : n ≡ refusalOf numbering (end e) a m) where
@@ -104,24 +112,20 @@ module _ {n : ℕ} (c : Console) (e : End) (read : consoleRead c ≡ Is e) (long
   number-is = refuses ∙ ap (λ (x : End). refusalOf numbering (end x) a m) (was-read c read .1)
 
   act-refused : {x : ConsoleOutcome} (reply : List ℕ) → (n ≡ 0 → ⊥) → x ≡ refusing n c → record { outcome = x; reply = reply } ≡ consoleActs c reply (in-console-act (λ _. m) a)
-  unfolding rules.absent consoleActs
+  unfolding rules.absent consoleActs console-read-step said ack-after
   act-refused reply z h =
       let same = sym (unchanged c long (was-read c read .0)) in
       (λ i. record { outcome = h i; reply = reply })
       ∙ (λ i. record { outcome = record { report = report.Refused (number-is i); sent = false; console = same i }; reply = reply })
-      ∙ ap (λ (d : rules.ConsoleActed Numbers (List ℕ)). consoleTold d reply) (sym (step-refused numbering (end (consoleEnd c)) (c .message) a m (λ q. z (number-is ∙ q))))
+      ∙ ap (λ (d : rules.ConsoleActed Numbers (List ℕ)). consoleTold (acted-read (use-of (in-console-act (λ _. m) a)) (c .ack) d) reply) (sym (step-refused numbering (end (consoleEnd c)) (c .message) a m (λ q. z (number-is ∙ q))))
 
-  act-done : {x : ConsoleAlone} (reply : List ℕ) → n ≡ 0 → x ≡ consoleTold (consoleActed e (c .message) a m) reply → x ≡ consoleActs c reply (in-console-act (λ _. m) a)
-  unfolding consoleActs
+  act-done : {x : ConsoleAlone} (reply : List ℕ) → n ≡ 0 → x ≡ consoleTold (acted-read (use-of (in-console-act (λ _. m) a)) (c .ack) (consoleActed e (c .message) a m)) reply → x ≡ consoleActs c reply (in-console-act (λ _. m) a)
+  unfolding consoleActs console-read-step
   act-done reply z h =
-      h ∙ ap (λ (x : End). consoleTold (consoleActed x (c .message) a m) reply) (was-read c read .1)
-      ∙ ap (λ (d : rules.ConsoleActed Numbers (List ℕ)). consoleTold d reply) (sym (step-done numbering (end (consoleEnd c)) (c .message) a m (sym number-is ∙ z)))
+      h ∙ ap (λ (x : End). consoleTold (acted-read (use-of (in-console-act (λ _. m) a)) (c .ack) (consoleActed x (c .message) a m)) reply) (was-read c read .1)
+      ∙ ap (λ (d : rules.ConsoleActed Numbers (List ℕ)). consoleTold (acted-read (use-of (in-console-act (λ _. m) a)) (c .ack) d) reply) (sym (step-done numbering (end (consoleEnd c)) (c .message) a m (sym number-is ∙ z)))
 
--- the code's answers, put together
-pub done-so : {v : Console} (d : Acted) (m : List ℕ) → v ≡ consoleFields (d .after) m → _≡_ {A = ConsoleOutcome} (record { report = d .report; sent = false; console = v }) (record { report = d .report; sent = false; console = consoleFields (d .after) m })
-done-so d m e = λ i. record { report = d .report; sent = false; console = e i }
-
--- ## P C V, which are not lent the reply buffer
+-- ## P C V A, which are not lent the reply buffer
 
 put-silent : (next : Option ℕ) (k : rules.ConsoleMode Beside) → rules.puts next k tt .sent ≡ none
 unfolding rules.puts
@@ -135,27 +139,43 @@ module _ {n : ℕ} {good : Bool} (c : Console) (e : End) (m : List ℕ) (read : 
   pub put-refused : {x : ConsoleOutcome} → (n ≡ 0 → ⊥) → x ≡ refusing n c → (reply : List ℕ) → record { outcome = x; reply = reply } ≡ consoleActs c reply (rules.put m)
   put-refused z h reply = act-refused c e read long (rules.put tt) m number reply z h
 
-  pub put-done : {x : ConsoleOutcome} {d : Acted} → n ≡ 0 → d ≡ acted (rules.console-acts numbering (end e) (rules.put tt)) → x ≡ record { report = d .report; sent = false; console = consoleFields (d .after) m }
+  pub put-done : {x : ConsoleOutcome} {d : Acted} → n ≡ 0 → d ≡ acted (rules.console-acts numbering (end e) (rules.put tt)) → x ≡ consoleDone d leaves (c .ack) m
       → (reply : List ℕ) → record { outcome = x; reply = reply } ≡ consoleActs c reply (rules.put m)
   unfolding rules.console-acts rules.console-turn
   put-done z f h reply =
-      act-done c e read long (rules.put tt) m number reply z (done-told (rules.console-acts numbering (end e) (rules.put tt)) m reply (put-silent (numbering .next (numbersMeans (e .numbers))) (mode (e .mode))) f h)
+      act-done c e read long (rules.put tt) m number reply z (done-told leaves (c .ack) (rules.console-acts numbering (end e) (rules.put tt)) m reply (put-silent (numbering .next (numbersMeans (e .numbers))) (mode (e .mode))) f h)
 
 module _ {x : ConsoleOutcome} (c : Console) (e : End) (read : consoleRead c ≡ Is e) (long : length (c .message) ≡ 16) where
-  pub down-done : {d : Acted} → d ≡ acted (rules.console-acts numbering (end e) rules.ConsoleAct.go-down) → x ≡ record { report = d .report; sent = false; console = consoleFields (d .after) (c .message) }
+  pub down-done : {d : Acted} → d ≡ acted (rules.console-acts numbering (end e) rules.ConsoleAct.go-down) → x ≡ consoleDone d leaves (c .ack) (c .message)
       → (reply : List ℕ) → record { outcome = x; reply = reply } ≡ consoleActs c reply rules.ConsoleAct.go-down
   unfolding rules.console-acts rules.console-turn
   down-done f h reply =
-      act-done c e read long rules.ConsoleAct.go-down (c .message) (down-0 e (isMessage (c .message))) reply refl (done-told (rules.console-acts numbering (end e) rules.ConsoleAct.go-down) (c .message) reply refl f h)
+      act-done c e read long rules.ConsoleAct.go-down (c .message) (down-0 e (isMessage (c .message))) reply refl (done-told leaves (c .ack) (rules.console-acts numbering (end e) rules.ConsoleAct.go-down) (c .message) reply refl f h)
 
   pub back-refused : e .up ≡ true → x ≡ refusing 5 c → (reply : List ℕ) → record { outcome = x; reply = reply } ≡ consoleActs c reply rules.ConsoleAct.come-back
   back-refused u h reply = act-refused c e read long rules.ConsoleAct.come-back (c .message) (back-5 e (isMessage (c .message)) u) reply (λ z. omega (arith, z)) h
 
-  pub back-done : {d : Acted} → e .up ≡ false → d ≡ acted (rules.console-acts numbering (end e) rules.ConsoleAct.come-back) → x ≡ record { report = d .report; sent = false; console = consoleFields (d .after) (c .message) }
+  pub back-done : {d : Acted} → e .up ≡ false → d ≡ acted (rules.console-acts numbering (end e) rules.ConsoleAct.come-back) → x ≡ consoleDone d clears (c .ack) (c .message)
       → (reply : List ℕ) → record { outcome = x; reply = reply } ≡ consoleActs c reply rules.ConsoleAct.come-back
   unfolding rules.console-acts rules.console-turn
   back-done u f h reply =
-      act-done c e read long rules.ConsoleAct.come-back (c .message) (back-0 e (isMessage (c .message)) u) reply refl (done-told (rules.console-acts numbering (end e) rules.ConsoleAct.come-back) (c .message) reply refl f h)
+      act-done c e read long rules.ConsoleAct.come-back (c .message) (back-0 e (isMessage (c .message)) u) reply refl (done-told clears (c .ack) (rules.console-acts numbering (end e) rules.ConsoleAct.come-back) (c .message) reply refl f h)
+
+-- A
+module _ {n : ℕ} (c : Console) (e : End) (read : consoleRead c ≡ Is e) (long : length (c .message) ≡ 16) (refuses : n ≡ first (rules.down-4 (e .up) ∷ (6, rules.holding (mode (e .mode))) ∷ [])) where
+  pub tell-refused : {x : ConsoleOutcome} → (n ≡ 0 → ⊥) → x ≡ refusing n c → (reply : List ℕ) → record { outcome = x; reply = reply } ≡ consoleActs c reply rules.tell-ack
+  tell-refused z h reply = act-refused c e read long rules.tell-ack (c .message) (refuses ∙ refuses-ack e (isMessage (c .message))) reply z h
+
+  pub tell-done : {s : Shown} → n ≡ 0 → s ≡ acked tells (c .ack) report.Nothing → (reply : List ℕ)
+      → record { outcome = record { report = s .report; sent = false; console = record { numbers = c .numbers; held = c .held; message = c .message; j = c .j; last = c .last; up = c .up; ack = s .ack } }; reply = reply } ≡ consoleActs c reply rules.tell-ack
+  unfolding rules.absent rules.console-acts rules.console-turn rules.end-after rules.numbers-after rules.up-after
+  tell-done z f reply =
+      let quiet : rules.Report (List ℕ) = rules.nothing in
+      let left = ack-after tells (c .ack) quiet in
+      let same = sym (ap (λ (x : End). consoleBack (reading (in-console (λ _. c .message) (end x)) left)) (was-read c read .1) ∙ only-its-ack c left long (was-read c read .0)) in
+      act-done c e read long rules.tell-ack (c .message) (refuses ∙ refuses-ack e (isMessage (c .message))) reply z
+      (ap (λ (y : Shown). record { outcome = record { report = y .report; sent = false; console = record { numbers = c .numbers; held = c .held; message = c .message; j = c .j; last = c .last; up = c .up; ack = y .ack } }; reply = reply }) (f ∙ acked-is tells (c .ack) quiet)
+      ∙ λ i. record { outcome = record { report = reportBack (said tells (c .ack) quiet); sent = false; console = same i }; reply = reply })
 
 -- ## Q and D
 
@@ -187,32 +207,34 @@ stays e held o = record { report = rules.nothing; sent = Option·map (in-packet 
 -- what they would send is what the rules' console would
 module _ {s : ForController} (c : Console) (e : End) (reply : List ℕ) (read : consoleRead c ≡ Is e) (long : length (c .message) ≡ 16) where
   stays-told : (o : Option (rules.ToController Beside)) → s ≡ forControllerBack o
-      → record { outcome = record { report = report.Nothing; sent = not (rules.absent (forController s)); console = c }; reply = replied (toControllerSent s (c .message)) reply } ≡ consoleTold (stays e (c .message) o) reply
-  unfolding toControllerSent
+      → record { outcome = record { report = report.Nothing; sent = not (rules.absent (forController s)); console = c }; reply = replied (toControllerSent s (c .message)) reply } ≡ consoleTold (acted-read leaves (c .ack) (stays e (c .message) o)) reply
+  unfolding toControllerSent said ack-after
   stays-told o f =
       let sent = ap forController f ∙ same-for-controller o in
-      let same = sym (ap (λ (x : End). consoleBack (in-console (λ _. c .message) (end x))) (was-read c read .1) ∙ unchanged c long (was-read c read .0)) in
+      let same = sym (ap (λ (x : End). consoleBack (reading (in-console (λ _. c .message) (end x)) (c .ack))) (was-read c read .1) ∙ unchanged c long (was-read c read .0)) in
       let says = ap rules.absent sent ∙ absent-told (c .message) o in
       λ i. record { outcome = record { report = report.Nothing; sent = not (says i); console = same i }; reply = replied (Option·map toControllerPacket (Option·map (in-packet (λ _. c .message)) (sent i))) reply }
 
   sends-so : (a : rules.ConsoleAct Beside) (o : Option (rules.ToController Beside)) → s ≡ forControllerBack o → first (rules.down-4 (e .up) ∷ rules.mode-6 (forController s) ∷ []) ≡ refusalOf numbering (end e) a (c .message) → consoleActed e (c .message) a (c .message) ≡ stays e (c .message) o
-      → consoleSends c (e .up) s reply ≡ consoleActs c reply (in-console-act (λ _. c .message) a)
+      → use-of (in-console-act (λ _. c .message) a) ≡ leaves → consoleSends c (e .up) s reply ≡ consoleActs c reply (in-console-act (λ _. c .message) a)
   unfolding consoleSends if_then_else_
-  sends-so a o f r w =
+  sends-so a o f r w v =
       let n = first (rules.down-4 (e .up) ∷ rules.mode-6 (forController s) ∷ []) in
       by-test (eqb n 0)
-      (λ t. rw t (act-done c e read long a (c .message) r reply (eqb-true n 0 t) (stays-told o f ∙ ap (λ (d : rules.ConsoleActed Numbers (List ℕ)). consoleTold d reply) (sym w))))
+      (λ t. rw t (act-done c e read long a (c .message) r reply (eqb-true n 0 t) (stays-told o f
+      ∙ ap (λ (d : rules.ConsoleActed Numbers (List ℕ)). consoleTold (acted-read leaves (c .ack) d) reply) (sym w)
+      ∙ ap (λ (u : Use). consoleTold (acted-read u (c .ack) (consoleActed e (c .message) a (c .message))) reply) (sym v))))
       (λ t. rw t (act-refused c e read long a (c .message) r reply (eqb-false n 0 t) refl))
 
   pub asked-needI : {x : ConsoleAlone} → s ≡ forControllerBack (rules.needI-sent (mode (e .mode))) → x ≡ consoleLent c reply (consoleSends c (e .up) s reply) → x ≡ consoleLent c reply (consoleActs c reply rules.send-needI)
   unfolding rules.console-acts rules.console-turn rules.end-after rules.numbers-after rules.up-after
   asked-needI f h =
-      h ∙ ap (consoleLent c reply) (sends-so rules.send-needI (rules.needI-sent (mode (e .mode))) f (refuses-needI e (isMessage (c .message)) f) refl)
+      h ∙ ap (consoleLent c reply) (sends-so rules.send-needI (rules.needI-sent (mode (e .mode))) f (refuses-needI e (isMessage (c .message)) f) refl refl)
 
   pub asked-data : {x : ConsoleAlone} → s ≡ forControllerBack (rules.data-sent (mode (e .mode))) → x ≡ consoleLent c reply (consoleSends c (e .up) s reply) → x ≡ consoleLent c reply (consoleActs c reply rules.send-data)
   unfolding rules.console-acts rules.console-turn rules.end-after rules.numbers-after rules.up-after
   asked-data f h =
-      h ∙ ap (consoleLent c reply) (sends-so rules.send-data (rules.data-sent (mode (e .mode))) f (refuses-data e (isMessage (c .message)) f) refl)
+      h ∙ ap (consoleLent c reply) (sends-so rules.send-data (rules.data-sent (mode (e .mode))) f (refuses-data e (isMessage (c .message)) f) refl refl)
 
 -- ## S
 
@@ -226,11 +248,11 @@ module _ {came : ForConsole} (c : Console) (e : End) (h : Head) (reply : List �
         act-refused c e read long (rules.ConsoleAct.take (some (toConsole p))) (c .message) (take-4 e (isMessage (c .message)) p u) reply (λ z. omega (arith, z)) w
         ∙ ap (consoleTakes c reply) (sym g ∙ f)
 
-    pub hears-done : {x : ConsoleAlone} {d : Acted} → e .up ≡ true → d ≡ acted (rules.console-acts numbering (end e) (rules.ConsoleAct.take (forConsole (for-console.Packet p)))) → x ≡ consoleTells d (c .message) reply
+    pub hears-done : {x : ConsoleAlone} {d : Acted} → e .up ≡ true → d ≡ acted (rules.console-acts numbering (end e) (rules.ConsoleAct.take (forConsole (for-console.Packet p)))) → x ≡ consoleTells d leaves (c .ack) (c .message) reply
         → x ≡ consoleTakes c reply (headForConsole h)
     hears-done u q w =
         act-done c e read long (rules.ConsoleAct.take (some (toConsole p))) (c .message) (take-0 e (isMessage (c .message)) p u) reply refl
-        (w ∙ ap (λ (d : Acted). consoleTells d (c .message) reply) q ∙ told (rules.console-acts numbering (end e) (rules.ConsoleAct.take (some (toConsole p)))) (c .message) reply)
+        (w ∙ ap (λ (d : Acted). consoleTells d leaves (c .ack) (c .message) reply) q ∙ told leaves (c .ack) (rules.console-acts numbering (end e) (rules.ConsoleAct.take (some (toConsole p)))) (c .message) reply)
         ∙ ap (consoleTakes c reply) (sym g ∙ f)
 
 module _ {r : ReadHead} (c : Console) (packet reply : List ℕ) (l : length reply ≡ 32) (e : r ≡ packetRead packet .head) where
@@ -259,6 +281,9 @@ module _ (ask : ConsoleAsk) (c : Console) (e : End) (m packet reply : List ℕ) 
 
     pub does-back : ask ≡ asks.ComeBack → ((y : List ℕ) → record { outcome = x; reply = y } ≡ consoleActs c y rules.ConsoleAct.come-back) → Asked (record { outcome = x; reply = reply })
     does-back f h = rw f (h reply)
+
+    pub does-tell : ask ≡ asks.TellAck → ((y : List ℕ) → record { outcome = x; reply = y } ≡ consoleActs c y rules.tell-ack) → Asked (record { outcome = x; reply = reply })
+    does-tell f h = rw f (h reply)
 
   module _ {x : ConsoleAlone} where
     pub does-needI : {s : ForController} → consoleRead c ≡ Is e → length (c .message) ≡ 16 → ask ≡ asks.SendNeedI → s ≡ forControllerBack (rules.needI-sent (mode (e .mode))) → x ≡ consoleLent c reply (consoleSends c (e .up) s reply) → Asked x

@@ -7,8 +7,12 @@ use mathlib.Core.List.{List}
 use lib.ListN.{length}
 use Rattle.rules.specs.Supply.{Numbers}
 use Rattle.rules.specs.Ends as rules
-use Rattle.rules.specs.Relabel.{in-packet, in-console-acted}
-use Rattle.ends.specs.AsRules.{Beside, toController, forController, forControllerBack}
+use Rattle.rules.specs.Reading.{Use, said, ack-after, acted-read}
+use Rattle.rules.specs.Relabel.{in-packet, in-report, in-console-acted}
+use Rattle.ends.specs.AsRules.{Beside, toController, forController, forControllerBack, reportBack}
+use Rattle.ends_console.specs.Ack.{acked}
+use Rattle.ends_console.specs.declared.ack.Shown.{Shown}
+use Rattle.ends_console.proofs.ShownReport.{acked-is}
 use Rattle.ends_console.specs.AsRules.{acted}
 use Rattle.ends_console.specs.Fields.{consoleFields}
 use Rattle.ends.specs.Packets.{toControllerPacket, toControllerSent}
@@ -24,7 +28,7 @@ use Rattle.ends_console.specs.declared.Acted.{Acted}
 use Rattle.ends_console.specs.declared.fields.Console.{Console}
 use Rattle.alone.specs.Alone.{Writable, replied}
 use Rattle.alone.specs.ConsoleAlone.{consoleTold}
-use Rattle.alone.specs.ConsolePrivate.{consoleTells}
+use Rattle.alone.specs.ConsolePrivate.{consoleDone, consoleTells}
 use Rattle.alone.specs.declared.console.ConsoleOutcome.{ConsoleOutcome}
 use Rattle.alone.proofs.ReplyWritten.{written}
 
@@ -44,36 +48,53 @@ absent-told k none = refl
 absent-told k (some p) = refl
 
 -- the acts of the rules at messages of one value, told with the message k beside them
-pub told : (d : rules.ConsoleActed Numbers Beside) (k reply : List ℕ) → consoleTells (acted d) k reply ≡ consoleTold (in-console-acted (λ _. k) d) reply
-unfolding toControllerSent
-told d k reply =
-    λ i.
-    record {
-      outcome =
-          record {
-            report = report-told k (d .report) i;
-            sent = not ((ap rules.absent (same-for-controller (d .sent)) ∙ absent-told k (d .sent)) i);
-            console = fields-told (d .after .numbers) (d .after .mode) (d .after .up) k i;
-          };
-      reply = replied (Option·map toControllerPacket (Option·map (in-packet (λ _. k)) (same-for-controller (d .sent) i))) reply;
-    }
+module _ (u : Use) (ack : Bool) (d : rules.ConsoleActed Numbers Beside) (k reply : List ℕ) where
+  -- what is shown of the report
+  shown-told : acked u ack (reportBack (d .report)) ≡ record { report = reportBack (said u ack (in-report (λ _. k) (d .report))); ack = ack-after u ack (in-report (λ _. k) (d .report)) }
+  shown-told = ap (acked u ack) (report-told k (d .report)) ∙ acked-is u ack (in-report (λ _. k) (d .report))
 
--- an act that sends nothing
-pub done-told : {x : ConsoleOutcome} {done : Acted} (d : rules.ConsoleActed Numbers Beside) (k reply : List ℕ) → d .sent ≡ none → done ≡ acted d → x ≡ record { report = done .report; sent = false; console = consoleFields (done .after) k }
-    → record { outcome = x; reply = reply } ≡ consoleTold (in-console-acted (λ _. k) d) reply
-unfolding toControllerSent rules.absent
-done-told d k reply s g h =
-    let o = sym s in
-    (λ i. record { outcome = h i; reply = reply })
-    ∙ (λ i. record { outcome = record { report = g i .report; sent = false; console = consoleFields (g i .after) k }; reply = reply })
-    ∙ (λ i.
-    record {
-      outcome = record { report = acted d .report; sent = not (rules.absent (forController (forControllerBack (o i)))); console = consoleFields (acted d .after) k };
-      reply = replied (Option·map toControllerPacket (Option·map (in-packet (λ _. k)) (forController (forControllerBack (o i))))) reply;
-    })
-    ∙ told d k reply
+  pub told : consoleTells (acted d) u ack k reply ≡ consoleTold (acted-read u ack (in-console-acted (λ _. k) d)) reply
+  unfolding toControllerSent
+  told =
+      λ i.
+      record {
+        outcome =
+            record {
+              report = shown-told i .report;
+              sent = not ((ap rules.absent (same-for-controller (d .sent)) ∙ absent-told k (d .sent)) i);
+              console = (ap (λ (s : Shown). consoleFields (acted d .after) (s .ack) k) shown-told ∙ fields-told (d .after .numbers) (d .after .mode) (d .after .up) (ack-after u ack (in-report (λ _. k) (d .report))) k) i;
+            };
+        reply = replied (Option·map toControllerPacket (Option·map (in-packet (λ _. k)) (same-for-controller (d .sent) i))) reply;
+      }
+
+  -- an act that sends nothing
+  pub done-told : {x : ConsoleOutcome} {done : Acted} → d .sent ≡ none → done ≡ acted d → x ≡ consoleDone done u ack k
+      → record { outcome = x; reply = reply } ≡ consoleTold (acted-read u ack (in-console-acted (λ _. k) d)) reply
+  unfolding toControllerSent rules.absent
+  done-told s g h =
+      let o = sym s in
+      (λ i. record { outcome = h i; reply = reply })
+      ∙ (λ i. record { outcome = consoleDone (g i) u ack k; reply = reply })
+      ∙ (λ i.
+      record {
+        outcome =
+            record {
+              report = consoleDone (acted d) u ack k .report;
+              sent = not (rules.absent (forController (forControllerBack (o i))));
+              console = consoleDone (acted d) u ack k .console;
+            };
+        reply = replied (Option·map toControllerPacket (Option·map (in-packet (λ _. k)) (forController (forControllerBack (o i))))) reply;
+      })
+      ∙ told
 
 -- the code's answers, put together
-pub replies : {b : Bool} {v : Console} {r : List ℕ} (done : Acted) (k reply : List ℕ) → b ≡ not (rules.absent (forController (done .sent))) → v ≡ consoleFields (done .after) k → r ≡ replied (toControllerSent (done .sent) k) reply
-    → record { outcome = record { report = done .report; sent = b; console = v }; reply = r } ≡ consoleTells done k reply
-replies done k reply b v r = λ i. record { outcome = record { report = done .report; sent = b i; console = v i }; reply = r i }
+pub done-so : {s : Shown} {v : Console} (d : Acted) (u : Use) (ack : Bool) (m : List ℕ) → s ≡ acked u ack (d .report) → v ≡ consoleFields (d .after) (s .ack) m
+    → record { report = s .report; sent = false; console = v } ≡ consoleDone d u ack m
+done-so {s = s} d u ack m f e =
+    (λ i. record { report = s .report; sent = false; console = e i }) ∙ ap (λ (x : Shown). record { report = x .report; sent = false; console = consoleFields (d .after) (x .ack) m }) f
+
+pub replies : {b : Bool} {s : Shown} {v : Console} {r : List ℕ} (d : Acted) (u : Use) (ack : Bool) (k reply : List ℕ) → b ≡ not (rules.absent (forController (d .sent))) → s ≡ acked u ack (d .report) → v ≡ consoleFields (d .after) (s .ack) k → r ≡ replied (toControllerSent (d .sent) k) reply
+    → record { outcome = record { report = s .report; sent = b; console = v }; reply = r } ≡ consoleTells d u ack k reply
+replies {s = s} d u ack k reply b f v r =
+    (λ i. record { outcome = record { report = s .report; sent = b i; console = v i }; reply = r i })
+    ∙ ap (λ (x : Shown). record { outcome = record { report = x .report; sent = not (rules.absent (forController (d .sent))); console = consoleFields (d .after) (x .ack) k }; reply = replied (toControllerSent (d .sent) k) reply }) f

@@ -53,17 +53,17 @@ Bears k = Console-bears Above Above (λ m. isMessage m ≡ true) k
 abbrev Meant : Console → Type 0
 Meant c = Bears (consoleMeans c .mode)
 
-idle-meant : (u : Numbers) (up : Bool) → Sound u → Meant (consoleWith u Idle up spaces)
+idle-meant : (u : Numbers) (up ack : Bool) → Sound u → Meant (consoleWith u Idle up ack spaces)
 unfolding consoleMode if_then_else_
-idle-meant u up s = tt
+idle-meant u up ack s = tt
 
-need-meant : (u : Numbers) (j : J) (up : Bool) (m : List ℕ) → Sound u → 0 < j .0 → its-own u j ≡ true → isMessage m ≡ true → Meant (consoleWith u (NeedI j) up m)
+need-meant : (u : Numbers) (j : J) (up ack : Bool) (m : List ℕ) → Sound u → 0 < j .0 → its-own u j ≡ true → isMessage m ≡ true → Meant (consoleWith u (NeedI j) up ack m)
 unfolding consoleMode if_then_else_
-need-meant u j up m s h l g = rw (ne-eqb (j .0) 0 (omega arith)) (h, g)
+need-meant u j up ack m s h l g = rw (ne-eqb (j .0) 0 (omega arith)) (h, g)
 
-send-meant : (u : Numbers) (l : I) (up : Bool) (m : List ℕ) → Sound u → 0 < l .0 → isMessage m ≡ true → Meant (consoleWith u (Send l) up m)
+send-meant : (u : Numbers) (l : I) (up ack : Bool) (m : List ℕ) → Sound u → 0 < l .0 → isMessage m ≡ true → Meant (consoleWith u (Send l) up ack m)
 unfolding consoleMode if_then_else_
-send-meant u l up m s h g = (h, g)
+send-meant u l up ack m s h g = (h, g)
 
 meant : (c : Console) → length (c .message) ≡ 16 → consoleOk c ≡ true → Meant c
 meant c long ok = by-mode Meant idle-meant need-meant send-meant c long ok

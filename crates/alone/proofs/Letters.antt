@@ -16,11 +16,12 @@ use Rattle.rules.specs.Supply.{numbering}
 use Rattle.rules.specs.Letters as letters
 use Rattle.rules.specs.Letters.{Letter, line, letter, Asks, the-console, the-controller, neither-end, ConsoleAsk, ControllerAsk}
 use Rattle.rules.specs.Ends as rules
+use Rattle.rules.specs.Reading.{console-read-step}
 use Rattle.rules.specs.Bench.{Bench, Asked, no-end, at, asked-to, asks}
 use Rattle.rules.specs.Relabel.{in-packet}
 use Rattle.ends_console.specs.Fields.{consoleOk}
 use Rattle.ends_controller.specs.Fields.{controllerOk}
-use Rattle.ends_console.specs.FieldsAsRules.{consoleMeans}
+use Rattle.ends_console.specs.FieldsAsRules.{consoleReads}
 use Rattle.ends_controller.specs.FieldsAsRules.{controllerMeans}
 use Rattle.ends.specs.AsRules.{forConsole, forController}
 use Rattle.ends.specs.Packets.{headForConsole, headForController, readForConsole, readForController}
@@ -47,6 +48,7 @@ module _ {S : Type 0} (b : Bench S (List ℕ)) (place : ℕ) (m packet reply : L
       (length reply ≡ 32) × ((q : rules.ToConsole) × ((at (b .toConsole) place ≡ some q) × (consoleHeard packet ≡ some q)))
   Lent (the-console ConsoleAsk.to-go-down) = Unit {0}
   Lent (the-console ConsoleAsk.to-come-back) = Unit {0}
+  Lent (the-console letters.to-tell-ack) = Unit {0}
   Lent (the-controller letters.to-send-offer) = length reply ≡ 32
   Lent (the-controller letters.to-send-ok) = length reply ≡ 32
   Lent (the-controller ControllerAsk.to-take) =
@@ -59,7 +61,7 @@ module _ {S : Type 0} (b : Bench S (List ℕ)) (place : ℕ) (m packet reply : L
 
   module _ (c : Console) (ok : consoleOk c ≡ true) where
     abbrev pub consoleObeys : Asked (List ℕ) → ConsoleAlone
-    consoleObeys (Asked.console a) = consoleTold (rules.console-step numbering isMessage (consoleMeans c) a) reply
+    consoleObeys (Asked.console a) = consoleTold (console-read-step numbering isMessage (consoleReads c) a) reply
     consoleObeys (Asked.controller a) = consoleRefused 1 c reply
     consoleObeys no-end = consoleRefused 1 c reply
 
@@ -80,6 +82,7 @@ module _ {S : Type 0} (b : Bench S (List ℕ)) (place : ℕ) (m packet reply : L
         rw (ok, h .0, h .1 .1 .0) (console-hears (packetRead packet .head) (h .1 .0) (h .1 .1 .1))
     console-asks (the-console ConsoleAsk.to-go-down) h = rw ok
     console-asks (the-console ConsoleAsk.to-come-back) h = rw ok
+    console-asks (the-console letters.to-tell-ack) h = rw ok
     console-asks (the-controller a) h = controller-no a
       where
         controller-no : (a : ControllerAsk) → consoleRefused 1 c reply ≡ consoleObeys (asked-to (the-controller a) b place m)
@@ -124,6 +127,7 @@ module _ {S : Type 0} (b : Bench S (List ℕ)) (place : ℕ) (m packet reply : L
         console-no ConsoleAsk.to-take = refl
         console-no ConsoleAsk.to-go-down = refl
         console-no ConsoleAsk.to-come-back = refl
+        console-no letters.to-tell-ack = refl
     controller-asks (the-controller letters.to-send-offer) h = rw (ok, h)
     controller-asks (the-controller letters.to-send-ok) h = rw (ok, h)
     controller-asks (the-controller ControllerAsk.to-take) h =

@@ -7,6 +7,7 @@ use lib.ListN.{length}
 use Rattle.ground.specs.Cell.{spaces}
 use Rattle.rules.specs.Letters.{line, letters, among, letter}
 use Rattle.rules.specs.Ends as rules
+use Rattle.rules.specs.Reading.{said, ack-after, console-read-step}
 use Rattle.rules.proofs.Supply.{back-is-reserved, stored-sound}
 use Rattle.numbers.specs.Numbers.{numbersMeans, numbersBack}
 use Rattle.ends_console.specs.Fields.{consoleOk, consoleMode, consoleWith, consoleKept, downedConsole}
@@ -31,24 +32,24 @@ console-quiet c reply = record { outcome = record { report = report.Nothing; sen
 
 -- going down clears nothing
 abbrev console-off : Console → Console
-console-off c = record { numbers = c .numbers; held = c .held; message = c .message; j = c .j; last = c .last; up = false }
+console-off c = record { numbers = c .numbers; held = c .held; message = c .message; j = c .j; last = c .last; up = false; ack = c .ack }
 
 console-goes-down : (c : Console) → length (c .message) ≡ 16 → consoleOk c ≡ true → (m packet reply : List ℕ) → consoleAlone c 0x43 m packet reply ≡ console-quiet (console-off c) reply
-unfolding consoleAlone consoleActs consoleOk consoleMode rules.ends line letters among letter
+unfolding consoleAlone consoleActs console-read-step said ack-after consoleOk consoleMode rules.ends line letters among letter
 console-goes-down c long ok m packet reply = rw ok (λ i. console-quiet (console.unchanged (console-off c) long ok i) reply)
 
--- up and idle, with all that was reserved used
+-- up and idle, with all that was reserved used, and the ack lost
 abbrev console-back : Console → Console
-console-back c = consoleWith (consoleKept c) console-mode.Idle true spaces
+console-back c = consoleWith (consoleKept c) console-mode.Idle true false spaces
 
 console-comes-back : (c : Console) → consoleOk c ≡ true → c .up ≡ false → (m packet reply : List ℕ) → consoleAlone c 0x56 m packet reply ≡ console-quiet (console-back c) reply
-unfolding consoleAlone consoleActs rules.ends line letters among letter
+unfolding consoleAlone consoleActs console-read-step said ack-after rules.ends line letters among letter
 console-comes-back c ok down m packet reply =
-    rw (ok, down) (λ i. console-quiet (consoleWith (numbersBack (back-is-reserved (numbersMeans (c .numbers)) (console-read.ok-sound c ok) i)) console-mode.Idle true spaces) reply)
+    rw (ok, down) (λ i. console-quiet (consoleWith (numbersBack (back-is-reserved (numbersMeans (c .numbers)) (console-read.ok-sound c ok) i)) console-mode.Idle true false spaces) reply)
 
 module _ (c : Console) (ok : consoleOk c ≡ true) where
   downed-ok : consoleOk (downedConsole (consoleKept c)) ≡ true
-  downed-ok = console-read.idle-ok (consoleKept c) false (stored-sound (numbersMeans (c .numbers)) (console-read.ok-sound c ok))
+  downed-ok = console-read.idle-ok (consoleKept c) false false (stored-sound (numbersMeans (c .numbers)) (console-read.ok-sound c ok))
 
   -- of one that is down already
   pub console-starts-as-down : c .up ≡ false → (m packet reply : List ℕ) → consoleAlone (downedConsole (consoleKept c)) 0x56 m packet reply ≡ consoleAlone c 0x56 m packet reply

@@ -1,7 +1,7 @@
 -- A refusal of an end run alone leaves the end and the reply buffer, sends nothing and delivers nothing; for every input that the types allow.
 use Prim.Native.Nat.{ℕ}
 use mathlib.Core.Path.{_≡_, sym, ap, _∙_}
-use mathlib.Core.Bool.{true, not}
+use mathlib.Core.Bool.{true, false, not}
 use mathlib.Core.Option.{none, Option·map}
 use mathlib.Core.List.{List}
 use lib.ListN.{length}
@@ -11,13 +11,15 @@ use Rattle.ground.proofs.Promise.{RefusalLeaves}
 use Rattle.wire.specs.Packet.{packetRead}
 use Rattle.rules.specs.Supply.{numbering, Numbers}
 use Rattle.rules.specs.Ends as rules
+use Rattle.rules.specs.Reading.{Use, use-of, said, ack-after, acted-read, console-read-step}
+use Rattle.ends_console.proofs.ShownReport.{refused-below}
 use Rattle.rules.proofs.Ends.{console-refused-same, controller-refused-same}
 use Rattle.ends_console.specs.Fields.{consoleOk}
 use Rattle.ends_controller.specs.Fields.{controllerOk}
-use Rattle.ends_console.specs.FieldsAsRules.{consoleMeans, consoleBack}
+use Rattle.ends_console.specs.FieldsAsRules.{consoleMeans, consoleReads, consoleBack}
 use Rattle.ends_controller.specs.FieldsAsRules.{controllerMeans, controllerBack}
 use Rattle.ends.specs.AsRules.{reportBack, numberIn, delivered}
-use Rattle.ends.specs.Packets.{toControllerPacket, toConsolePacket}
+use Rattle.ends.specs.Packets.{toConsolePacket}
 use Rattle.ends_console.proofs.FieldsAsRules as console
 use Rattle.ends_controller.proofs.FieldsAsRules as controller
 use Rattle.ends.proofs.Reports.{IsRefused, its-number, refused-in-rules}
@@ -36,19 +38,20 @@ use Rattle.alone.proofs.controller.step.Reads as controller-step
 -- ## The console
 
 module _ (c : Console) (long : length (c .message) ≡ 16) (m reply : List ℕ) where
-  console-told : (d : rules.ConsoleActed Numbers (List ℕ)) (n : ℕ) → d .report ≡ rules.refused n → d .sent ≡ none → d .after ≡ consoleMeans c → consoleBack (consoleMeans c) ≡ c → consoleTold d reply ≡ consoleRefused n c reply
-  unfolding rules.absent
-  console-told d n r s a u =
-      let f = ap consoleBack a ∙ u in
-      λ i. record { outcome = record { report = reportBack (r i); sent = not (rules.absent (s i)); console = f i }; reply = replied (Option·map toControllerPacket (s i)) reply }
+  console-told : (u : Use) (d : rules.ConsoleActed Numbers (List ℕ)) (n : ℕ) → d .report ≡ rules.refused n → d .sent ≡ none → d .after ≡ consoleMeans c → consoleBack (consoleReads c) ≡ c
+      → consoleTold (acted-read u (c .ack) d) reply ≡ consoleRefused n c reply
+  unfolding rules.absent said ack-after
+  console-told u d n r s a same =
+      (λ i. consoleTold (acted-read u (c .ack) (record { report = r i; sent = s i; after = a i })) reply)
+      ∙ λ i. record { outcome = record { report = report.Refused n; sent = false; console = same i }; reply = reply }
 
   console-acted : (a : rules.ConsoleAct (List ℕ)) → consoleOk c ≡ true → (n : ℕ) → consoleActs c reply a .outcome .report ≡ report.Refused n → consoleActs c reply a ≡ consoleRefused n c reply
-  unfolding consoleActs
+  unfolding consoleActs console-read-step
   console-acted a ok n e =
       let d = rules.console-step numbering isMessage (consoleMeans c) a in
-      let r = refused-in-rules (d .report) n e in
+      let r = refused-below (use-of a) (c .ack) (d .report) n e in
       let s = console-refused-same numbering isMessage (consoleMeans c) a n r in
-      console-told d n r (s .0) (s .1) (console.unchanged c long ok)
+      console-told (use-of a) d n r (s .0) (s .1) (console.unchanged c long ok)
 
   pub console-refusal-leaves : (l : ℕ) (packet : List ℕ) (n : ℕ) → consoleAlone c l m packet reply .outcome .report ≡ report.Refused n → consoleAlone c l m packet reply ≡ consoleRefused n c reply
   console-refusal-leaves l packet =

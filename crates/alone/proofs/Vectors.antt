@@ -13,6 +13,7 @@ use Rattle.wire.specs.declared.Head.the-variants.{NeedI, Offer, Data, Ok, Lost,
 use Rattle.rules.specs.Supply.{numbers-rules}
 use Rattle.rules.specs.Letters.{line, letters, among, letter}
 use Rattle.rules.specs.Ends as rules
+use Rattle.rules.specs.Reading.{said, ack-after, console-read-step}
 use Rattle.numbers.specs.Numbers.{numbersFresh}
 use Rattle.numbers.specs.declared.Numbers.{Numbers}
 use Rattle.ends_console.specs.Fields.{consoleOk, consoleMode, consoleWith, freshConsole, downedConsole}
@@ -30,7 +31,7 @@ use Rattle.alone.specs.ControllerAlone.{ControllerAlone, controllerActs,
 
 -- all that an example computes with
 unfoldable pub opened : Unit {0}
-unfolding consoleAlone consoleOk consoleMode consoleActs consoleLent controllerAlone controllerOk controllerMode controllerActs controllerLent rules.ends numbers-rules
+unfolding consoleAlone consoleOk consoleMode consoleActs consoleLent console-read-step said ack-after controllerAlone controllerOk controllerMode controllerActs controllerLent rules.ends numbers-rules
     packetBytes packetRead readRefusal headAt headOf value bytesOf isBlank isMessage cells filled line letters among letter
 opened = tt
 
@@ -97,9 +98,9 @@ each-letter : map alone
 unfolding opened
 each-letter = refl
 
--- P Q D S C V L M, with a packet and a reply buffer that are good
-others : map (λ l. controllerAlone accepting l (packet (Offer (record { 0 = 1 }) (record { 0 = 3 })) zeros) room .outcome .report) (0x50 ∷ 0x51 ∷ 0x44 ∷ 0x53 ∷ 0x43 ∷ 0x56 ∷ 0x4C ∷ 0x4D ∷ [])
-    ≡ replicate 8 (report.Refused 1)
+-- P Q D S C V L M A, with a packet and a reply buffer that are good
+others : map (λ l. controllerAlone accepting l (packet (Offer (record { 0 = 1 }) (record { 0 = 3 })) zeros) room .outcome .report) (0x50 ∷ 0x51 ∷ 0x44 ∷ 0x53 ∷ 0x43 ∷ 0x56 ∷ 0x4C ∷ 0x4D ∷ 0x41 ∷ [])
+    ≡ replicate 9 (report.Refused 1)
 unfolding opened
 others = refl
 
@@ -167,19 +168,19 @@ abbrev at-1 : Numbers
 at-1 = record { used = 1; reserved = 64; block = 64 }
 
 abbrev idle-at-1 : Console
-idle-at-1 = consoleWith at-1 mode.Idle true spaces
+idle-at-1 = consoleWith at-1 mode.Idle true false spaces
 
 -- it is asked for
 abbrev needing : Console
-needing = consoleWith at-1 (mode.NeedI (record { 0 = 1 })) true start
+needing = consoleWith at-1 (mode.NeedI (record { 0 = 1 })) true false start
 
 -- the order with I 3 is being sent
 abbrev pub sending : Console
-sending = consoleWith at-1 (mode.Send (record { 0 = 3 })) true start
+sending = consoleWith at-1 (mode.Send (record { 0 = 3 })) true false start
 
 -- the same, down: nothing is cleared
 abbrev sending-down : Console
-sending-down = consoleWith at-1 (mode.Send (record { 0 = 3 })) false start
+sending-down = consoleWith at-1 (mode.Send (record { 0 = 3 })) false false start
 
 -- nothing to report
 abbrev console-stays : Bool → List ℕ → Console → ConsoleAlone
@@ -189,26 +190,48 @@ console-stays sent reply c = record { outcome = record { report = report.Nothing
 abbrev console-alone : Console × ℕ × List ℕ × List ℕ × List ℕ → ConsoleAlone
 console-alone a = consoleAlone (a .0) (a .1) (a .2) (a .3) (a .4)
 
--- P: held, with the next J; Q: needI(j); S of an offer: last; D: data(last, message); S of OK: the answer, with done for it; C; V: last used is what was reserved
+-- as OK arrived for its order
+abbrev idle-with-ok : Console
+idle-with-ok = consoleWith at-1 mode.Idle true true spaces
+
+-- P: held, with the next J; Q: needI(j); S of an offer: last; D: data(last, message); S of OK: stored, not told, with done for it; A: told, and then lost;
+-- C; V: last used is what was reserved, and the ack is lost
 console-each-letter : map console-alone
     ((freshConsole (record { 0 = 0 }), 0x50, start, [], [])
     ∷ (needing, 0x51, spaces, [], room)
     ∷ (needing, 0x53, spaces, packet (Offer (record { 0 = 1 }) (record { 0 = 3 })) zeros, room)
     ∷ (sending, 0x44, spaces, [], room)
     ∷ (sending, 0x53, spaces, packet (Ok (record { 0 = 3 })) zeros, room)
+    ∷ (idle-with-ok, 0x41, spaces, [], [])
+    ∷ (idle-at-1, 0x41, spaces, [], [])
     ∷ (sending, 0x43, spaces, [], [])
     ∷ (sending-down, 0x56, spaces, [], [])
+    ∷ (consoleWith at-1 mode.Idle false true spaces, 0x56, spaces, [], [])
     ∷ [])
     ≡ (console-stays false [] needing
     ∷ console-stays true (packet (NeedI (record { 0 = 1 })) zeros) needing
     ∷ console-stays false room sending
     ∷ console-stays true (packet (Data (record { 0 = 3 })) start) sending
-    ∷ record { outcome = record { report = report.Ok; sent = true; console = idle-at-1 }; reply = packet (Done (record { 0 = 3 })) zeros }
+    ∷ console-stays true (packet (Done (record { 0 = 3 })) zeros) idle-with-ok
+    ∷ record { outcome = record { report = report.Ok; sent = false; console = idle-at-1 }; reply = [] }
+    ∷ record { outcome = record { report = report.Lost; sent = false; console = idle-at-1 }; reply = [] }
     ∷ console-stays false [] sending-down
+    ∷ console-stays false [] (freshConsole (record { 0 = 64 }))
     ∷ console-stays false [] (freshConsole (record { 0 = 64 }))
     ∷ [])
 unfolding opened
 console-each-letter = refl
+
+-- P, C and what arrives for another order leave the ack
+ack-left : map (λ a. console-alone a .outcome .console .ack)
+    ((idle-with-ok, 0x50, start, [], [])
+    ∷ (idle-with-ok, 0x43, spaces, [], [])
+    ∷ (idle-with-ok, 0x53, spaces, packet (Lost (record { 0 = 2 })) zeros, room)
+    ∷ (sending, 0x53, spaces, packet (Ok (record { 0 = 2 })) zeros, room)
+    ∷ [])
+    ≡ true ∷ true ∷ true ∷ false ∷ []
+unfolding opened
+ack-left = refl
 
 -- O K R X Y L M, with a message, a packet and a reply buffer that are good
 console-others : map (λ l. consoleAlone sending l start (packet (Data (record { 0 = 3 })) start) room .outcome .report) (0x4F ∷ 0x4B ∷ 0x52 ∷ 0x58 ∷ 0x59 ∷ 0x4C ∷ 0x4D ∷ [])
@@ -231,10 +254,11 @@ offer-being-sent : hears (Offer (record { 0 = 1 }) (record { 0 = 3 })) sending �
 unfolding opened
 offer-being-sent = refl
 
--- lost for the order being sent: the answer, message and last cleared, no reply
-lost-answered : hears (Lost (record { 0 = 3 })) sending ≡ record { outcome = record { report = report.Lost; sent = false; console = idle-at-1 }; reply = room }
+-- lost for the order being sent: stored, whatever the ack was, message and last cleared, no reply
+lost-stored : map (hears (Lost (record { 0 = 3 }))) (sending ∷ consoleWith at-1 (mode.Send (record { 0 = 3 })) true true start ∷ [])
+    ≡ console-stays false room idle-at-1 ∷ console-stays false room idle-at-1 ∷ []
 unfolding opened
-lost-answered = refl
+lost-stored = refl
 
 -- an OK that is not last: done for it
 old-ok : map (hears (Ok (record { 0 = 2 }))) any-console ≡ map (console-stays true (packet (Done (record { 0 = 2 })) zeros)) any-console
@@ -249,7 +273,7 @@ old-lost = refl
 abbrev console-tells : Console × ℕ × List ℕ × List ℕ × List ℕ → Report
 console-tells a = console-alone a .outcome .report
 
--- R; 12 of the buffer before 6, and with nothing to send; 15; 11 before 4; 4, 5, 6, 8
+-- R; 12 of the buffer before 6, and with nothing to send; 15; 11 before 4; 4, 5, 6, 8; A: 4 and 6, 4 before 6, of any buffer
 console-refused : map console-tells
     ((sending, 0x52, spaces, [], room)
     ∷ (freshConsole (record { 0 = 0 }), 0x51, spaces, [], short)
@@ -261,8 +285,11 @@ console-refused : map console-tells
     ∷ (freshConsole (record { 0 = 0 }), 0x51, [], [], room)
     ∷ (sending, 0x50, spaces, [], [])
     ∷ (freshConsole (record { 0 = 4294967295 }), 0x50, spaces, [], [])
+    ∷ (downedConsole (numbersFresh 0), 0x41, spaces, [], short)
+    ∷ (sending, 0x41, spaces, [], short)
+    ∷ (sending-down, 0x41, spaces, [], short)
     ∷ [])
-    ≡ map report.Refused (1 ∷ 12 ∷ 12 ∷ 15 ∷ 11 ∷ 4 ∷ 5 ∷ 6 ∷ 6 ∷ 8 ∷ [])
+    ≡ map report.Refused (1 ∷ 12 ∷ 12 ∷ 15 ∷ 11 ∷ 4 ∷ 5 ∷ 6 ∷ 6 ∷ 8 ∷ 4 ∷ 6 ∷ 4 ∷ [])
 unfolding opened
 console-refused = refl
 
@@ -272,7 +299,7 @@ abbrev in-block : ℕ → ℕ → ℕ → Numbers
 in-block used reserved block = record { used = used; reserved = reserved; block = block }
 
 abbrev console-at : Numbers → Bool → Console
-console-at numbers up = consoleWith numbers mode.Idle up spaces
+console-at numbers up = consoleWith numbers mode.Idle up false spaces
 
 abbrev after-P : List ℕ → Numbers → Numbers
 after-P m n = consoleAlone (console-at n true) 0x50 m [] [] .outcome .console .numbers

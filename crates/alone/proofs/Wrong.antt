@@ -40,7 +40,7 @@ no-ok e = let z : _≡_ {A = ℕ} 0 1 = cc in omega (arith, z)
 -- ## A console: P of 16 spaces, fresh
 
 abbrev putting : ConsoleOutcome
-putting = record { report = report.Nothing; sent = false; console = consoleWith (record { used = 1; reserved = 64; block = 64 }) (NeedI (record { 0 = 1 })) true spaces }
+putting = record { report = report.Nothing; sent = false; console = consoleWith (record { used = 1; reserved = 64; block = 64 }) (NeedI (record { 0 = 1 })) true false spaces }
 
 put-told : (packet reply : List ℕ) → consoleAlone (freshConsole (record { 0 = 0 })) 0x50 spaces packet reply ≡ record { outcome = putting; reply = reply }
 unfolding opened
@@ -113,7 +113,7 @@ console-says-13-of-the-other-direction κs a x s e w p = unequal (ap numberIn (s
 
 -- a message held and neither j nor last, asked R
 abbrev no-console : Console
-no-console = record { numbers = numbersFresh 1; held = true; message = spaces; j = record { 0 = 0 }; last = record { 0 = 0 }; up = true }
+no-console = record { numbers = numbersFresh 1; held = true; message = spaces; j = record { 0 = 0 }; last = record { 0 = 0 }; up = true; ack = false }
 
 pub console-says-2-before-1 : RulesOut console-step-kinds.ps console-step-kinds.r console-step.Post (console-given no-console 0x52 some-data room) (λ κs a x s. x .report ≡ report.Refused 2)
 unfolding opened

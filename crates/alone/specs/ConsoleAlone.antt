@@ -11,12 +11,13 @@ use Rattle.wire.specs.Packet.{packetRead}
 use Rattle.wire.specs.declared.ReadHead.{ReadHead}
 use Rattle.wire.specs.declared.ReadHead.the-variants as read-head
 use Rattle.rules.specs.Supply.{numbering, Numbers}
-use Rattle.rules.specs.Letters.{Letter, line, letter, Asks, the-console, the-controller, neither-end, ConsoleAsk, to-put, to-send-needI, to-send-data}
+use Rattle.rules.specs.Letters.{Letter, line, letter, Asks, the-console, the-controller, neither-end, ConsoleAsk, to-put, to-send-needI, to-send-data, to-tell-ack}
 use Rattle.rules.specs.Ends as rules
+use Rattle.rules.specs.Reading.{ReadActed, console-read-step}
 use Rattle.ends.specs.Packets.{toControllerPacket, headForConsole}
 use Rattle.ends.specs.AsRules.{toConsole, reportBack}
 use Rattle.ends_console.specs.Fields.{consoleOk}
-use Rattle.ends_console.specs.FieldsAsRules.{consoleMeans, consoleBack}
+use Rattle.ends_console.specs.FieldsAsRules.{consoleReads, consoleBack}
 use Rattle.ends.specs.declared.ForConsole.{ForConsole}
 use Rattle.ends.specs.declared.ForConsole.the-variants as for-console
 use Rattle.ends.specs.declared.Report.the-variants as report
@@ -32,17 +33,18 @@ pub record ConsoleAlone : Type 0 where
 abbrev pub consoleRefused : ℕ → Console → List ℕ → ConsoleAlone
 consoleRefused n c reply = record { outcome = record { report = report.Refused n; sent = false; console = c }; reply = reply }
 
-abbrev pub consoleTold : rules.ConsoleActed Numbers (List ℕ) → List ℕ → ConsoleAlone
+abbrev pub consoleTold : ReadActed Numbers (List ℕ) → List ℕ → ConsoleAlone
 consoleTold d reply =
     record {
-      outcome = record { report = reportBack (d .report); sent = not (rules.absent (d .sent)); console = consoleBack (d .after) };
+      outcome =
+          record { report = reportBack (d .told .report); sent = not (rules.absent (d .sent)); console = consoleBack (d .told .after) };
       reply = replied (Option·map toControllerPacket (d .sent)) reply;
     }
 
 module _ (c : Console) (reply : List ℕ) where
-  -- what the rules' console does, or refuses
+  -- what the rules' console does, or refuses, with its ack
   unfoldable pub consoleActs : rules.ConsoleAct (List ℕ) → ConsoleAlone
-  consoleActs act = consoleTold (rules.console-step numbering isMessage (consoleMeans c) act) reply
+  consoleActs act = consoleTold (console-read-step numbering isMessage (consoleReads c) act) reply
 
   -- a packet in whose kind goes the other way is 15
   abbrev pub consoleTakes : ForConsole → ConsoleAlone
@@ -67,6 +69,7 @@ module _ (c : Console) (reply : List ℕ) where
     consoleAsked ConsoleAsk.to-take = consoleLent (consoleHears (packetRead packet .head))
     consoleAsked ConsoleAsk.to-go-down = consoleActs rules.ConsoleAct.go-down
     consoleAsked ConsoleAsk.to-come-back = consoleActs rules.ConsoleAct.come-back
+    consoleAsked to-tell-ack = consoleActs rules.tell-ack
 
     -- 1: a letter that asks the other end, or none. 2: the console is not well formed
     abbrev pub consoleAsks : Asks → ConsoleAlone

@@ -6,11 +6,14 @@ use ends::packets::for_console;
 use ends::packets::to_controller;
 use ends_console::Acted;
 use ends_console::End;
+use ends_console::ack::AckUse;
+use ends_console::ack::shows;
 use ends_console::acts;
 use ends_console::fields::Console;
 use ends_console::fields::ConsoleRead;
 use ends_console::fields::console_of;
 use ends_console::fields::read_console;
+use ends_console::refusals::ack_refusal;
 use ends_console::refusals::send_refusal;
 use ends_console::turns::data_sent;
 use ends_console::turns::needi_sent;
@@ -25,14 +28,16 @@ ghost use mathlib.Core.List.{List};
 ghost use Prim.Native.Nat.{ℕ};
 ghost use lib.ListN.{length};
 ghost use Rattle.wire.specs.Packet.{numbered, packetRead};
-ghost use Rattle.rules.specs.Ends.{absent, put, ConsoleAct};
+ghost use Rattle.rules.specs.Ends.{absent, put, tell-ack, ConsoleAct};
+ghost use Rattle.rules.specs.Reading.{leaves};
 ghost use Rattle.letters.specs.Lines.{consoleAskMeans};
-ghost use Rattle.ends_console.specs.Fields.{consoleRead, consoleFields};
+ghost use Rattle.ends_console.specs.Ack.{useMeans};
+ghost use Rattle.ends_console.specs.Fields.{consoleRead};
 ghost use Rattle.ends.specs.AsRules.{forController};
 ghost use Rattle.ends.specs.Packets.{headForConsole, toControllerSent};
 ghost use Rattle.alone.specs.Alone.{Writable, replied};
 ghost use Rattle.alone.specs.ConsoleAlone.{consoleActs, consoleTakes, consoleHears, consoleLent, consoleAsked, consoleAlone};
-ghost use Rattle.alone.specs.ConsolePrivate.{consoleTells, consoleSends};
+ghost use Rattle.alone.specs.ConsolePrivate.{consoleDone, consoleTells, consoleSends};
 
 pub struct ConsoleOutcome {
     pub report: Report,
@@ -65,32 +70,36 @@ fn send(sent: ForController, message: [u8; 16], reply: &mut [u8]) -> bool
     }
 }
 
-// What was done by an act that sends nothing; the console then holds `message`, if it holds one.
-fn done(acted: Acted, message: [u8; 16]) -> ConsoleOutcome
-    ensures { λ r. ⌜ r ≡ record { report = acted .report; sent = false; console = consoleFields (acted .after) message } ⌝ }
+// What was done by an act that sends nothing; the console then holds `message`, if it holds one, and its ack is what the act leaves of `ack`.
+fn done(acted: Acted, u: AckUse, ack: bool, message: [u8; 16]) -> ConsoleOutcome
+    ensures { λ r. ⌜ r ≡ consoleDone acted (useMeans u) ack message ⌝ }
 {
     let report = acted.report;
     let end = acted.after;
+    let shown = shows(u, ack, report);
+    let report = shown.report;
     ConsoleOutcome {
         report,
         sent: false,
-        console: console_of(end, message),
+        console: console_of(end, shown.ack, message),
     }
 }
 
-// The same of one that may send: that is written.
-fn replies(acted: Acted, message: [u8; 16], reply: &mut [u8]) -> ConsoleOutcome
+// The same of S, which may send: that is written.
+fn replies(acted: Acted, ack: bool, message: [u8; 16], reply: &mut [u8]) -> ConsoleOutcome
     requires { ⌜ Writable (toControllerSent (acted .sent) message) (length (now reply)) ⌝ }
-    ensures { λ r. ⌜ record { outcome = r; reply = now (reply .exit) } ≡ consoleTells acted message (now (reply .entry)) ⌝ }
+    ensures { λ r. ⌜ record { outcome = r; reply = now (reply .exit) } ≡ consoleTells acted leaves ack message (now (reply .entry)) ⌝ }
 {
     let report = acted.report;
     let sent = acted.sent;
     let end = acted.after;
     let written = send(sent, message, reply);
+    let shown = shows(AckUse::Leaves, ack, report);
+    let report = shown.report;
     ConsoleOutcome {
         report,
         sent: written,
-        console: console_of(end, message),
+        console: console_of(end, shown.ack, message),
     }
 }
 
@@ -104,7 +113,7 @@ fn puts(c: Console, e: End, message: &[u8; 16]) -> ConsoleOutcome
     if n != 0 {
         return refused(n, c);
     }
-    done(acts::puts(e), *message)
+    done(acts::puts(e), AckUse::Leaves, c.ack, *message)
 }
 
 // Q and D. They are lent the reply buffer, and change nothing of the console.
@@ -142,7 +151,12 @@ fn hears(c: Console, e: End, head: Head, reply: &mut [u8]) -> ConsoleOutcome
         ForConsole::Packet(p) => {
             if e.up {
                 let held = c.message;
-                replies(acts::takes_what_came(e, ForConsole::Packet(p)), held, reply)
+                replies(
+                    acts::takes_what_came(e, ForConsole::Packet(p)),
+                    c.ack,
+                    held,
+                    reply,
+                )
             } else {
                 refused(4, c)
             }
@@ -172,7 +186,7 @@ fn goes_down(c: Console, e: End) -> ConsoleOutcome
     ensures { λ r. ⌜ ((reply : List ℕ) → record { outcome = r; reply = reply } ≡ consoleActs c reply ConsoleAct.go-down) ⌝ }
 {
     let held = c.message;
-    done(acts::goes_down(e), held)
+    done(acts::goes_down(e), AckUse::Leaves, c.ack, held)
 }
 
 fn comes_back(c: Console, e: End) -> ConsoleOutcome
@@ -184,7 +198,29 @@ fn comes_back(c: Console, e: End) -> ConsoleOutcome
         return refused(5, c);
     }
     let held = c.message;
-    done(acts::comes_back(e), held)
+    done(acts::comes_back(e), AckUse::Clears, c.ack, held)
+}
+
+// A changes nothing but the ack.
+fn tells(c: Console, e: End) -> ConsoleOutcome
+    requires { ⌜ consoleRead c ≡ ConsoleRead.Is e ⌝ }
+    requires { ⌜ length (c .message) ≡ 16 ⌝ }
+    ensures { λ r. ⌜ ((reply : List ℕ) → record { outcome = r; reply = reply } ≡ consoleActs c reply tell-ack) ⌝ }
+{
+    let mode = e.mode;
+    let n = ack_refusal(mode, e.up);
+    if n != 0 {
+        return refused(n, c);
+    }
+    let shown = shows(AckUse::Tells, c.ack, Report::Nothing);
+    let report = shown.report;
+    let mut after = c;
+    after.ack = shown.ack;
+    ConsoleOutcome {
+        report,
+        sent: false,
+        console: after,
+    }
 }
 
 // What a console's type says of its message; there is nothing to run.
@@ -213,10 +249,11 @@ fn does(
         ConsoleAsk::Take => takes(c, e, packet, reply),
         ConsoleAsk::GoDown => goes_down(c, e),
         ConsoleAsk::ComeBack => comes_back(c, e),
+        ConsoleAsk::TellAck => tells(c, e),
     }
 }
 
-// P Q D S C V of a console run alone; any other letter is 1. What is sent is written to `reply`.
+// P Q D S C V A of a console run alone; any other letter is 1. What is sent is written to `reply`.
 pub fn step(
     c: Console,
     letter: u8,

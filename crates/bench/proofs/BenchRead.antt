@@ -50,11 +50,11 @@ module _ (b : Bench) (out back : List ℕ) {e : console-end.End} {f : controller
     back-passes : tableOk ToConsole (b .returned) back ≡ true
     back-passes = and-right (tableOk ToController (b .sent) out) (tableOk ToConsole (b .returned) back) (sym t ∙ not-false ok n)
 
-    loaded-is : loadedOf (consoleEnd (b .console)) (b .console .message) (controllerEnd (b .controller)) (b .sent) (b .returned) ≡ loadedOf e (b .console .message) f (b .sent) (b .returned)
+    loaded-is : loadedOf (consoleEnd (b .console)) (b .console .ack) (b .console .message) (controllerEnd (b .controller)) (b .sent) (b .returned) ≡ loadedOf e (b .console .ack) (b .console .message) f (b .sent) (b .returned)
     loaded-is =
-        λ i. loadedOf (sym (console-fields.was-read (b .console) r .1) i) (b .console .message) (sym (controller-fields.was-read (b .controller) s .1) i) (b .sent) (b .returned)
+        λ i. loadedOf (sym (console-fields.was-read (b .console) r .1) i) (b .console .ack) (b .console .message) (sym (controller-fields.was-read (b .controller) s .1) i) (b .sent) (b .returned)
 
-    well : Typed (b .console) (b .controller) → Bytes out → Bytes back → Well (loadedOf (consoleEnd (b .console)) (b .console .message) (controllerEnd (b .controller)) (b .sent) (b .returned)) out back
+    well : Typed (b .console) (b .controller) → Bytes out → Bytes back → Well (loadedOf (consoleEnd (b .console)) (b .console .ack) (b .console .message) (controllerEnd (b .controller)) (b .sent) (b .returned)) out back
     unfolding loadedOf loadedMeans
     well typed p q =
         record {
@@ -71,7 +71,7 @@ module _ (b : Bench) (out back : List ℕ) {e : console-end.End} {f : controller
           back-holds = sym (channel-packets to-console-coded (b .returned) back q back-passes);
         }
 
-    pub well-so : {l : Loaded} → Typed (b .console) (b .controller) → Bytes out → Bytes back → l ≡ loadedOf e (b .console .message) f (b .sent) (b .returned) → Well l out back
+    pub well-so : {l : Loaded} → Typed (b .console) (b .controller) → Bytes out → Bytes back → l ≡ loadedOf e (b .console .ack) (b .console .message) f (b .sent) (b .returned) → Well l out back
     well-so typed p q g = subst (λ (x : Loaded). Well x out back) (loaded-is ∙ sym g) (well typed p q)
 
 module _ (b : Bench) (out back : List ℕ) (ok : benchOk b out back ≡ true) where
@@ -107,5 +107,5 @@ module _ (b : Bench) (out back : List ℕ) (ok : benchOk b out back ≡ true) wh
   unfolding controllerRead if_then_else_
   controller-is-read = rw controller-passes
 
-  pub passes-well : Typed (b .console) (b .controller) → Bytes out → Bytes back → Well (loadedOf (consoleEnd (b .console)) (b .console .message) (controllerEnd (b .controller)) (b .sent) (b .returned)) out back
+  pub passes-well : Typed (b .console) (b .controller) → Bytes out → Bytes back → Well (loadedOf (consoleEnd (b .console)) (b .console .ack) (b .console .message) (controllerEnd (b .controller)) (b .sent) (b .returned)) out back
   passes-well typed p q = well-so b out back console-is-read controller-is-read refl (rw tables-pass) typed p q refl

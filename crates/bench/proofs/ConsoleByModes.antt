@@ -22,7 +22,7 @@ use Rattle.rules.proofs.Ends.{console-reports}
 use Rattle.rules.proofs.Stages.{staged-end, staged-3, staged-9, staged-0, step-does}
 use Rattle.letters.specs.Lines.{letterOf}
 use Rattle.letters.specs.declared.ConsoleAsk.{ConsoleAsk}
-use Rattle.letters.specs.declared.ConsoleAsk.the-variants.{Put, SendNeedI, SendData, Take, GoDown, ComeBack}
+use Rattle.letters.specs.declared.ConsoleAsk.the-variants.{Put, SendNeedI, SendData, Take, GoDown, ComeBack, TellAck}
 use Rattle.letters.specs.declared.Line.{Line}
 use Rattle.numbers.specs.Numbers.{given, moveMeans}
 use Rattle.numbers.specs.declared.Move.the-variants.{Stay}
@@ -61,6 +61,7 @@ same-flag e SendData p good = refl
 same-flag e Take p good = refl
 same-flag e GoDown p good = refl
 same-flag e ComeBack p good = refl
+same-flag e TellAck p good = refl
 
 kept-flag : (ask : ConsoleAsk) (p : ForConsole) (m h : List ℕ) → (if puts ask then m else h) ≡ kept (askedTo ask p) m h
 unfolding if_then_else_
@@ -70,6 +71,7 @@ kept-flag SendData p m h = refl
 kept-flag Take p m h = refl
 kept-flag GoDown p m h = refl
 kept-flag ComeBack p m h = refl
+kept-flag TellAck p m h = refl
 
 -- ## The number in a console's step
 

@@ -11,13 +11,13 @@ use lib.ListN.{length, getD, drop, replicate}
 use Rattle.ground.specs.Cell.{cells, isMessage, spaces}
 use Rattle.ground.specs.Choice.{if_then_else_}
 use Rattle.ground.specs.Every.{filled}
-use Rattle.rules.specs.Supply.{numbering, Numbers, fresh-numbers}
+use Rattle.rules.specs.Supply.{numbering, fresh-numbers}
+use Rattle.rules.specs.Reading.{read-step, fresh-reading, readings}
 use Rattle.rules.specs.Letters.{P-put, line, letters, among, letter}
 use Rattle.rules.specs.Ends as ends
 use Rattle.rules.specs.Bench as rules
 use Rattle.rules.specs.WellFormed.{Well-formed}
-use Rattle.rules.proofs.Supply.{numbering-lawful}
-use Rattle.rules.proofs.WellFormed.{fresh-well-formed, step-well-formed}
+use Rattle.rules.proofs.WellFormed.{fresh-well-formed}
 use Rattle.letters.specs.Lines.{lineOf}
 use Rattle.ends.specs.AsRules.{delivered, reportBack}
 use Rattle.ends.specs.declared.Report.the-variants.{Nothing, Refused}
@@ -31,7 +31,7 @@ use Rattle.bench.specs.Reports.{reportLine}
 use Rattle.bench.specs.Running.{recordsOf, listAction, played, lines, limitOf, listLines, Ran, listRun}
 use Rattle.bench.specs.declared.Action.{Action}
 use Rattle.bench.specs.Orders.{asRules}
-use Rattle.bench.proofs.Orders.{out, back, step-of}
+use Rattle.bench.proofs.Orders.{Here, out, back, step-of, next-ok}
 use Rattle.bench.proofs.runner.run.Kinds as run-kinds
 use Rattle.bench.proofs.runner.run.Reads as run
 
@@ -44,42 +44,42 @@ put = 0x50 ∷ 0x30 ∷ 0x30 ∷ 0x30 ∷ (spaces ++ 0x0A ∷ [])
 abbrev putting : Action
 putting = record { letter = 0x50; place = 0; copies = 0; message = spaces }
 
-abbrev fresh : rules.Bench Numbers (List ℕ)
-fresh = rules.fresh (fresh-numbers 0) (fresh-numbers 0)
+abbrev fresh : Here
+fresh = fresh-reading (fresh-numbers 0) (fresh-numbers 0)
 
 abbrev asked : rules.Action (List ℕ)
 asked = asRules P-put putting
 
-abbrev after : rules.Bench Numbers (List ℕ)
-after = rules.step numbering isMessage fresh asked .after
+abbrev after : Here
+after = read-step numbering isMessage fresh asked .after
 
-fresh-ok : Well-formed numbering isMessage fresh
+fresh-ok : Well-formed numbering isMessage (fresh .history)
 fresh-ok = fresh-well-formed numbering isMessage (fresh-numbers 0) (fresh-numbers 0) refl refl
 
-after-ok : Well-formed numbering isMessage after
-after-ok = step-well-formed numbering numbering-lawful isMessage fresh asked fresh-ok
+after-ok : Well-formed numbering isMessage (after .history)
+after-ok = next-ok fresh asked fresh-ok
 
 -- the record is the action
-put-played : (b : rules.Bench Numbers (List ℕ)) → played (benchBack b) (out b) (back b) put ≡ benchStep (benchBack b) putting (out b) (back b)
+put-played : (b : Here) → played (benchBack b) (out b) (back b) put ≡ benchStep (benchBack b) putting (out b) (back b)
 unfolding played listAction listRecord wellFormed fieldsFit placeFits copiesFit messageFits isPlace isCopies fields isMessage cells filled if_then_else_ line letters among letter lineOf
 put-played b = refl
 
-first : played (benchBack fresh) (replicate 2048 0) (replicate 2048 0) put ≡ benchTold (rules.step numbering isMessage fresh asked)
+first : played (benchBack fresh) (replicate 2048 0) (replicate 2048 0) put ≡ benchTold (read-step numbering isMessage fresh asked)
 unfolding rules.fresh letter among letters line if_then_else_
 first =
     (λ i. played (benchBack fresh) (sym (channel-none to-controller-coded) i) (sym (channel-none to-console-coded) i) put)
     ∙ put-played fresh ∙ step-of fresh fresh-ok putting P-put refl
 
-second : played (benchBack after) (out after) (back after) put ≡ benchTold (rules.step numbering isMessage after asked)
+second : played (benchBack after) (out after) (back after) put ≡ benchTold (read-step numbering isMessage after asked)
 unfolding letter among letters line if_then_else_
 second = put-played after ∙ step-of after after-ok putting P-put refl
 
-accepted : rules.step numbering isMessage fresh asked .report ≡ ends.nothing
-unfolding rules.rules isMessage cells
+accepted : read-step numbering isMessage fresh asked .report ≡ ends.nothing
+unfolding rules.rules readings isMessage cells
 accepted = refl
 
-refused : rules.step numbering isMessage after asked .report ≡ ends.refused 6
-unfolding rules.rules isMessage cells
+refused : read-step numbering isMessage after asked .report ≡ ends.refused 6
+unfolding rules.rules readings isMessage cells
 refused = refl
 
 -- the line of a record, and those that follow

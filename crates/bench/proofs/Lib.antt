@@ -1,3 +1,4 @@
+pub mod AckShown
 pub mod BenchRead
 pub mod BenchStands
 pub mod ConsoleByModes

@@ -29,7 +29,7 @@ reads = tt
 abbrev is : ℕ → ℕ → ℕ → List ℕ → Option Action
 is letter place copies message = some (record { letter = letter; place = place; copies = copies; message = message })
 
--- "P000" with START FILLER 03; "P000", "Q001", "D002", "R001", "S633", "L090", "M630" and "X000", each with 16 spaces
+-- "P000" with START FILLER 03; "P000", "Q001", "D002", "R001", "S633", "L090", "M630", "X000" and "A000", each with 16 spaces
 abbrev good : List (List ℕ × Option Action)
 good =
     (laid 0x50 0x30 0x30 0x30 start, is 0x50 0 0 start)
@@ -41,13 +41,14 @@ good =
     ∷ (laid 0x4C 0x30 0x39 0x30 spaces, is 0x4C 9 0 spaces)
     ∷ (laid 0x4D 0x36 0x33 0x30 spaces, is 0x4D 63 0 spaces)
     ∷ (laid 0x58 0x30 0x30 0x30 spaces, is 0x58 0 0 spaces)
+    ∷ (laid 0x41 0x30 0x30 0x30 spaces, is 0x41 0 0 spaces)
     ∷ []
 
 good-read : map (λ (v : List ℕ × Option Action). listAction (v .0)) good ≡ map (λ (v : List ℕ × Option Action). v .1) good
 unfolding reads
 good-read = refl
 
--- fields that the letter doesn't use: a place with P and Q, copies with P and L, a message with Q and V
+-- fields that the letter doesn't use: a place with P, Q and A, copies with P, L and A, a message with Q, V and A
 abbrev unused : List (List ℕ)
 unused =
     laid 0x50 0x30 0x31 0x30 start
@@ -56,14 +57,17 @@ unused =
     ∷ laid 0x4C 0x30 0x30 0x31 spaces
     ∷ laid 0x51 0x30 0x30 0x31 start
     ∷ laid 0x56 0x30 0x30 0x30 (set spaces 15 0x2E)
+    ∷ laid 0x41 0x30 0x31 0x30 spaces
+    ∷ laid 0x41 0x30 0x30 0x31 spaces
+    ∷ laid 0x41 0x30 0x30 0x30 start
     ∷ []
 
--- letters that are none: "p", "A", a space, "?"
+-- letters that are none: "p", "B", a space, "?"
 abbrev no-letters : List (List ℕ)
-no-letters = map (λ b. laid b 0x30 0x30 0x30 spaces) (0x70 ∷ 0x41 ∷ 0x20 ∷ 0x3F ∷ [])
+no-letters = map (λ b. laid b 0x30 0x30 0x30 spaces) (0x70 ∷ 0x42 ∷ 0x20 ∷ 0x3F ∷ [])
 
 -- and nothing at all
-bad-read : map listAction (unused ++ no-letters ++ ([] ∷ [])) ≡ replicate 11 none
+bad-read : map listAction (unused ++ no-letters ++ ([] ∷ [])) ≡ replicate 14 none
 unfolding reads
 bad-read = refl
 

@@ -1,6 +1,7 @@
 -- Demand 3 of the list program, of what `bench::run` itself promises.
 use Prim.Native.Nat.{ℕ, suc, _*_}
 use mathlib.Core.Path.{_≡_, refl, sym, ap, ap₂, subst, _∙_}
+use mathlib.Core.Bool.{false}
 use mathlib.Core.Option.{Option, none, some}
 use mathlib.Core.List.{List, [], _∷_, _++_, map, append-assoc}
 use native.Mathlib.Omega.{arith}
@@ -14,15 +15,16 @@ use Rattle.ground.specs.Cell.{isMessage}
 use Rattle.ground.specs.Choice.{if_then_else_}
 use Rattle.ground.proofs.Tests.{by-test}
 use Rattle.ground.specs.Bytes.{field}
-use Rattle.rules.specs.Supply.{numbering, Numbers, fresh-numbers}
+use Rattle.rules.specs.Supply.{numbering, fresh-numbers}
 use Rattle.rules.specs.Letters.{Letter, line, letters, among, letter}
 use Rattle.rules.specs.Bench as rules
 use Rattle.rules.specs.Log.{Event}
-use Rattle.rules.specs.Plain.{Plain}
+use Rattle.rules.specs.ReadPlain.{Plain-read}
+use Rattle.rules.specs.ReadDemand3.{firsts, spares-lost}
 use Rattle.rules.specs.Demand3.{written}
 use Rattle.rules.specs.WellFormed.{Well-formed}
 use Rattle.rules.proofs.Letters.{letter-of}
-use Rattle.rules.proofs.Plain.{right-plain}
+use Rattle.rules.proofs.ReadPlain.{right-read-plain}
 use Rattle.rules.proofs.WellFormed.{fresh-well-formed}
 use Rattle.letters.specs.Lines.{lineOf, foundOf}
 use Rattle.ends.specs.declared.Report.{Report}
@@ -39,7 +41,7 @@ use Rattle.bench.specs.declared.Action.{Action}
 use Rattle.bench.specs.declared.Bench.{Bench}
 use Rattle.bench.specs.declared.Outcome.{Outcome}
 use Rattle.bench.proofs.StepLeaves.{step-leaves}
-use Rattle.bench.proofs.Orders.{out, back, orders-right}
+use Rattle.bench.proofs.Orders.{Here, out, back, orders-right}
 use Rattle.bench.proofs.Reports.{said, refusal-said, line-letter, line-says, line-message, line-long}
 use Rattle.bench.proofs.runner.run.Kinds as run-kinds
 use Rattle.bench.proofs.runner.run.Reads as run
@@ -110,10 +112,10 @@ module _ (k : ℕ) (s m : List ℕ) (long : length m ≡ 16) where
 
 -- ## All lines, where the rules' bench stands
 
-abbrev outcomesFrom : rules.Bench Numbers (List ℕ) → List (List ℕ) → List Outcome
+abbrev outcomesFrom : Here → List (List ℕ) → List Outcome
 outcomesFrom b ss = outcomes (benchBack b) (out b) (back b) (map actionOf ss)
 
-all-shown : (k : ℕ) (b : rules.Bench Numbers (List ℕ)) → Well-formed numbering isMessage b → (ss : List (List ℕ)) (rest : List ℕ)
+all-shown : (k : ℕ) (b : Here) → Well-formed numbering isMessage (b .history) → (ss : List (List ℕ)) (rest : List ℕ)
     → (linesShow ss (linesOf k ss (outcomesFrom b ss) ++ rest) ≡ allShown (map actionOf ss) (outcomesFrom b ss)) × (length (linesOf k ss (outcomesFrom b ss)) ≡ 27 * length ss)
 unfolding linesShow linesOf outcomes allShown
 all-shown k b w [] rest = (refl, refl)
@@ -149,7 +151,7 @@ module _ (input before : List ℕ) where
   abbrev all : List ℕ
   all = linesOf 1 records told
 
-  fresh-ok : Well-formed numbering isMessage (freshRules j₀ i₀)
+  fresh-ok : Well-formed numbering isMessage (freshRules j₀ i₀ .history)
   fresh-ok = fresh-well-formed numbering isMessage (fresh-numbers 0) (fresh-numbers 0) refl refl
 
   lines-shown : (rest : List ℕ) → (linesShow records (all ++ rest) ≡ allShown (actionsIn input before) told) × (length all ≡ 27 * length records)
@@ -170,7 +172,8 @@ module _ (input before : List ℕ) where
         lines = take-at all rest (length all) refl;
         rest = drop-at all rest (length all) refl;
         orders = orders;
-        shown = orders .own ∙ sym (lines-shown rest .0);
+        shown = orders .own ∙ ap (firsts false) (sym (lines-shown rest .0));
+        spare = ap (spares-lost false) (lines-shown rest .0) ∙ orders .spare;
       })
 
 -- what comes to this run are lines of right orders
@@ -183,5 +186,5 @@ module _ (κs : Lfts 2) (a : Dens κs run-kinds.ps) (x : ℕ) (s : AtExit (ended
   list-right = ran-right (now (a .0)) (now (a .1 .0)) meets
 
   -- in plain words
-  pub list-plain : Plain (written (rowsOf [] (rules.fresh (fresh-numbers 0) (fresh-numbers 0)) (actionsIn (now (a .0)) (now (a .1 .0)))) [])
-  list-plain = right-plain _ (list-right .orders .right)
+  pub list-plain : Plain-read (written (rowsOf j₀ i₀ (actionsIn (now (a .0)) (now (a .1 .0)))) [])
+  list-plain = right-read-plain _ (list-right .orders .right)

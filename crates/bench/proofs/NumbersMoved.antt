@@ -17,6 +17,7 @@ use Rattle.rules.specs.Offered.{Offer, moved, packet-of, moved-on, bench-offeri
 use Rattle.rules.specs.Letters as letters
 use Rattle.rules.specs.Ends as ends
 use Rattle.rules.specs.Bench as rules
+use Rattle.rules.specs.Reading.{Use, leaves, use-by, said, ack-after, read, read-step}
 use Rattle.rules.specs.Relabel.{in-mode}
 use Rattle.rules.specs.WellFormed.{Number, Given, Good}
 use Rattle.rules.proofs.Offered.{unknown-by-offer, Asked-same-7, step-offering, Taken-one, step-there}
@@ -36,18 +37,22 @@ use Rattle.numbers.proofs.Counting.{next-given}
 use Rattle.ends.specs.AsRules.{forController}
 use Rattle.ends.specs.declared.ForController.the-variants as for-controller
 use Rattle.ends.specs.declared.Report.the-variants.{Refused}
+use Rattle.ends_console.specs.Ack.{useMeans, ackUse, acked}
 use Rattle.ends_console.specs.AsRules as console
+use Rattle.ends_console.specs.declared.ack.AckUse.{AckUse}
+use Rattle.ends_console.specs.declared.ack.Shown.{Shown}
 use Rattle.ends_controller.specs.AsRules as controller
 use Rattle.ends_controller.proofs.MessageBeside.{same-unknown}
 use Rattle.bench.specs.Arriving.{nothingCame, cameOut, cameFor}
 use Rattle.bench.specs.ByModes.{RulesOutcome, Known, Offers, Arrived, Few, OnConsole, OnController, OnLosing, toldAs, shownOf, modesMoved, modesMeans, modesStep, actionOf}
-use Rattle.bench.specs.Loaded.{Well, loadedMeans, offeredBy, movedBy, steppedAs, loadedStep}
+use Rattle.bench.specs.Loaded.{Well, loadedMeans, loadedReads, offeredBy, movedBy, asItIs, steppedAs, readOf, loadedStep}
 use Rattle.bench.specs.declared.Action.{Action}
 use Rattle.bench.specs.declared.arriving.Came.{Came}
 use Rattle.bench.specs.declared.loaded.Loaded.{Loaded}
 use Rattle.bench.specs.declared.loaded.Stepped.{Stepped}
 use Rattle.bench.specs.declared.modes.Offered.{Offered}
 use Rattle.bench.specs.declared.modes.Told.{Told}
+use Rattle.bench.proofs.AckShown.{shownWith, read-shown, keptWith, read-kept, useOf, Elsewhere, use-by-line, step-quiet}
 use Rattle.bench.proofs.PacketAtPlace.{out-is}
 use Rattle.bench.proofs.RefusedByModes.{out-held}
 use Rattle.bench.proofs.WhoIsAsked.{asked-console, asked-controller, asked-no-end}
@@ -151,6 +156,7 @@ module _ (b : Loaded) (out back : List ℕ) (k : Well b out back) where
     seven-by-letter letters.Y-back e = refl
     seven-by-letter letters.L-lose e = tt
     seven-by-letter letters.M-lose e = tt
+    seven-by-letter letters.A-ack e = tt
 
     seven : Lined line → Asked-same-7 numbering known B (rules.asks B (actionOf line a .letter) (a .place) (a .message))
     unfolding actionOf Lined
@@ -173,7 +179,7 @@ module _ (b : Loaded) (out back : List ℕ) (k : Well b out back) where
     after-so Take n h = rw (h tt)
     after-so Back n h = refl
 
-    module _ (told : Told) {r : Stepped} (out′ back′ : List ℕ) (e : toldAs told o out′ back′ ≡ modesStep (b .modes) o out back line a) (g : r ≡ movedBy (b .console) (b .controller) told) where
+    module _ (told : Told) (out′ back′ : List ℕ) (e : toldAs told o out′ back′ ≡ modesStep (b .modes) o out back line a) where
       after-is : modesMoved (told .after) o (told .console) (told .controller) out′ back′ ≡ O .after
       unfolding toldAs modesStep shownOf
       after-is = ap (λ (x : RulesOutcome Offer). x .after) e
@@ -188,11 +194,22 @@ module _ (b : Loaded) (out back : List ℕ) (k : Well b out back) where
           let q = ap (λ (x : Offered). ends.absent (given (x .i .0))) f ∙ ap ends.absent (next-given (numbersMeans (b .controller))) in
           (λ h. sym p ∙ t .0 h, λ h. sym q ∙ t .1 h)
 
-      pub stepped-so : Lined line → steppedAs r out′ back′ ≡ loadedStep b out back line a
-      unfolding steppedAs loadedStep loadedMeans toldAs modesStep shownOf modesMoved moved-on
-      stepped-so l =
-          ap (λ (x : Stepped). steppedAs x out′ back′) g
-          ∙ (λ i.
+      -- what is told, with the numbers moved
+      abbrev history : RulesOutcome supply.Numbers
+      history =
+          record {
+            report = told .report;
+            message = told .message;
+            after = loadedMeans (movedBy (b .console) (b .controller) (asItIs (b .ack) told) told .after) out′ back′;
+            out = out′;
+            back = back′;
+          }
+
+      -- is the history's step
+      history-is : Lined line → history ≡ shownOf (rules.step numbering isMessage B (actionOf line a))
+      unfolding loadedMeans toldAs modesStep shownOf modesMoved moved-on
+      history-is l =
+          (λ i.
           record {
             report = told .report;
             message = told .message;
@@ -219,13 +236,37 @@ module _ (b : Loaded) (out back : List ℕ) (k : Well b out back) where
           ∙ (λ i. record { report = e i .report; message = e i .message; after = moved-on numbering B (record { report = O .report; after = e i .after }) .after; out = e i .out; back = e i .back })
           ∙ ap shownOf (sym (step-is l))
 
+      -- ## What is shown, and the ack
+
+      used-as : {u : Use} (l : Lined line) → u ≡ useOf (line .asks) → readOf (read u (b .ack) (rules.step numbering isMessage B (actionOf line a) .report) (rules.step numbering isMessage B (actionOf line a) .after)) ≡ loadedStep b out back line a
+      unfolding loadedStep read-step actionOf
+      used-as l h =
+          let s = rules.step numbering isMessage B (actionOf line a) in
+          ap (λ (u : Use). readOf (read u (b .ack) (s .report) (s .after))) (h ∙ sym (use-by-line B (a .place) (a .copies) (a .message) line l))
+
+      pub shown-so : {r : Stepped} {s : Shown} {u : Use} (l : Lined line) → u ≡ useOf (line .asks) → s ≡ acked u (b .ack) (told .report) → r ≡ movedBy (b .console) (b .controller) s told
+          → steppedAs r out′ back′ ≡ loadedStep b out back line a
+      unfolding steppedAs loadedMeans
+      shown-so {u = u} l h p g =
+          ap (λ (x : Stepped). steppedAs x out′ back′) (g ∙ ap (λ (y : Shown). movedBy (b .console) (b .controller) y told) p)
+          ∙ ap (shownWith u (b .ack)) (history-is l) ∙ read-shown u (b .ack) (rules.step numbering isMessage B (actionOf line a)) ∙ used-as l h
+
+      pub kept-so : {r : Stepped} {s : Shown} (l : Lined line) → leaves ≡ useOf (line .asks) → Elsewhere (line .asks) → s ≡ asItIs (b .ack) told → r ≡ movedBy (b .console) (b .controller) s told
+          → steppedAs r out′ back′ ≡ loadedStep b out back line a
+      unfolding steppedAs loadedMeans actionOf
+      kept-so l h w p g =
+          ap (λ (x : Stepped). steppedAs x out′ back′) (g ∙ ap (λ (y : Shown). movedBy (b .console) (b .controller) y told) p)
+          ∙ ap (keptWith (b .ack)) (history-is l)
+          ∙ read-kept (b .ack) (rules.step numbering isMessage B (actionOf line a)) (step-quiet B (a .place) (a .copies) (a .message) line l w)
+          ∙ used-as l h
+
 -- ## By whom is asked
 
 module _ (b : Loaded) (out back : List ℕ) (k : Well b out back) (line : Line) (a : Action) where
   -- 10
   pub too-many-so : {many : Bool} {r : Stepped} → Lined line → many ≡ (line .copies && ltb 3 (a .copies)) → many ≡ true → r ≡ record { report = Refused 10; message = spaces; after = b }
       → steppedAs r out back ≡ loadedStep b out back line a
-  unfolding steppedAs loadedStep shownOf actionOf Lined lineOf
+  unfolding steppedAs loadedStep readOf read-step said ack-after actionOf Lined lineOf
   too-many-so l p t q =
       let B = loadedMeans b out back in
       let A = actionOf line a in
@@ -236,8 +277,8 @@ module _ (b : Loaded) (out back : List ℕ) (k : Well b out back) (line : Line) 
       let ten = in-stages numbering isMessage B (letterOf line) (a .place) (a .copies) (a .message)
       ∙ staged-10 (l .copies && ltb 3 (a .copies)) end (l .place && rules.missing (rules.takes (letterOf line)) B (a .place)) (l .copies && rules.no-room numbering B (a .copies) asked) flag in
       ap (λ (x : Stepped). steppedAs x out back) q
-      ∙ (λ i. record { report = Refused 10; message = spaces; after = B; out = k .out-holds i; back = k .back-holds i })
-      ∙ ap shownOf (sym (step-refuses numbering isMessage B A 10 ten (λ x. omega (arith, x))))
+      ∙ (λ i. record { report = Refused 10; message = spaces; after = loadedReads b out back; out = k .out-holds i; back = k .back-holds i })
+      ∙ ap (λ (o : rules.Outcome supply.Numbers (List ℕ)). readOf (read (use-by asked) (b .ack) (o .report) (o .after))) (sym (step-refuses numbering isMessage B A 10 ten (λ x. omega (arith, x))))
 
   pub few-so : {many : Bool} → Lined line → many ≡ (line .copies && ltb 3 (a .copies)) → many ≡ false → Few line a
   few-so l p f = record { lined = l; few = sym p ∙ f }
@@ -254,20 +295,34 @@ module _ (b : Loaded) (out back : List ℕ) (k : Well b out back) (line : Line) 
       pub on-console : OnConsole (b .modes) o out back line a ask came
       on-console = asked-console (b .modes) o out back a (known-modes b out back k) line came n (arrived-so b out back k line a came (line-came h (c out (b .modes .sent))) f) h
 
-      pub console-stepped : (told : Told) {r : Stepped} (out′ back′ : List ℕ) → toldAs told o out′ back′ ≡ modesStep (b .modes) o out back line a → r ≡ movedBy (b .console) (b .controller) told → steppedAs r out′ back′ ≡ loadedStep b out back line a
-      console-stepped told out′ back′ e g = stepped-so b out back k line a came (line-came h (c out (b .modes .sent))) f told out′ back′ e g (n .lined)
+      pub console-stepped : (told : Told) {r : Stepped} {s : Shown} {u : AckUse} (out′ back′ : List ℕ) → toldAs told o out′ back′ ≡ modesStep (b .modes) o out back line a
+          → u ≡ ackUse ask → s ≡ acked (useMeans u) (b .ack) (told .report) → r ≡ movedBy (b .console) (b .controller) s told → steppedAs r out′ back′ ≡ loadedStep b out back line a
+      console-stepped told out′ back′ e v s g =
+          shown-so b out back k line a came (line-came h (c out (b .modes .sent))) f told out′ back′ e (n .lined) (ap useMeans v ∙ ap useOf (sym h)) s g
+
+      -- a refusal is shown as it is
+      pub console-refused : (told : Told) {r : Stepped} {s : Shown} {m : ℕ} (out′ back′ : List ℕ) → toldAs told o out′ back′ ≡ modesStep (b .modes) o out back line a
+          → told .report ≡ Refused m → s ≡ asItIs (b .ack) told → r ≡ movedBy (b .console) (b .controller) s told → steppedAs r out′ back′ ≡ loadedStep b out back line a
+      unfolding acked said ack-after
+      console-refused told out′ back′ e refuses s g =
+          console-stepped told out′ back′ e refl
+          (s ∙ (λ i. record { report = refuses i; ack = b .ack }) ∙ sym (ap (acked (useMeans (ackUse ask)) (b .ack)) refuses)) g
 
     module _ {ask : ControllerAsk} (h : line .asks ≡ asks.Controller ask) (c : (t : List ℕ) (m : ℕ) → came ≡ cameFor (asks.Controller ask) out (b .modes .sent) t m (a .place)) where
       pub on-controller : OnController (b .modes) o out back line a ask came
       on-controller = asked-controller (b .modes) o out back a (known-modes b out back k) line came n (arrived-so b out back k line a came (line-came h (c back (b .modes .returned))) f) h
 
-      pub controller-stepped : (told : Told) {r : Stepped} (out′ back′ : List ℕ) → toldAs told o out′ back′ ≡ modesStep (b .modes) o out back line a → r ≡ movedBy (b .console) (b .controller) told → steppedAs r out′ back′ ≡ loadedStep b out back line a
-      controller-stepped told out′ back′ e g = stepped-so b out back k line a came (line-came h (c back (b .modes .returned))) f told out′ back′ e g (n .lined)
+      pub controller-stepped : (told : Told) {r : Stepped} {s : Shown} (out′ back′ : List ℕ) → toldAs told o out′ back′ ≡ modesStep (b .modes) o out back line a
+          → s ≡ asItIs (b .ack) told → r ≡ movedBy (b .console) (b .controller) s told → steppedAs r out′ back′ ≡ loadedStep b out back line a
+      controller-stepped told out′ back′ e s g =
+          kept-so b out back k line a came (line-came h (c back (b .modes .returned))) f told out′ back′ e (n .lined) (ap useOf (sym h)) (subst Elsewhere (sym h) tt) s g
 
   -- no end is asked, and nothing came
   module _ (n : Few line a) {o : Offered} (h : line .asks ≡ asks.NoEnd) (f : o ≡ offeredBy (b .console) (b .controller) for-controller.Nothing) where
     pub on-losing : OnLosing (b .modes) o out back line a
     on-losing = asked-no-end (b .modes) o out back a (known-modes b out back k) line nothingCame n (arrived-so b out back k line a nothingCame (line-came n nothingCame f h refl) f) h
 
-    pub losing-stepped : (told : Told) {r : Stepped} (out′ back′ : List ℕ) → toldAs told o out′ back′ ≡ modesStep (b .modes) o out back line a → r ≡ movedBy (b .console) (b .controller) told → steppedAs r out′ back′ ≡ loadedStep b out back line a
-    losing-stepped told out′ back′ e g = stepped-so b out back k line a nothingCame (line-came n nothingCame f h refl) f told out′ back′ e g (n .lined)
+    pub losing-stepped : (told : Told) {r : Stepped} {s : Shown} (out′ back′ : List ℕ) → toldAs told o out′ back′ ≡ modesStep (b .modes) o out back line a
+        → s ≡ asItIs (b .ack) told → r ≡ movedBy (b .console) (b .controller) s told → steppedAs r out′ back′ ≡ loadedStep b out back line a
+    losing-stepped told out′ back′ e s g =
+        kept-so b out back k line a nothingCame (line-came n nothingCame f h refl) f told out′ back′ e (n .lined) (ap useOf (sym h)) (subst Elsewhere (sym h) tt) s g

@@ -71,6 +71,7 @@ handed b u d letters.X-down k m = tt
 handed b u d letters.Y-back k m = tt
 handed b u d letters.L-lose k m = tt
 handed b u d letters.M-lose k m = tt
+handed b u d letters.A-ack k m = tt
 
 -- the message of a put that is not refused is good
 handed-good : (e : ends.Console Offer (List ℕ)) (act : ends.ConsoleAct (List ℕ)) → refusal (ends.console-rules offered isMessage e act) ≡ 0 → ConsoleAct-bears (Number numbering) (Number numbering) Any act
@@ -82,6 +83,7 @@ handed-good e ends.send-data q h = tt
 handed-good e (ends.ConsoleAct.take p) q h = h
 handed-good e ends.ConsoleAct.go-down q h = tt
 handed-good e ends.ConsoleAct.come-back q h = tt
+handed-good e ends.tell-ack q h = tt
 
 pub console-sends : (e : ends.Console Offer (List ℕ)) (act : ends.ConsoleAct (List ℕ)) → Sayable (e .numbers) → Console-bears (Number numbering) (Number numbering) (Good isMessage) (e .mode)
     → refusal (ends.console-rules offered isMessage e act) ≡ 0 → Handed (rules.Asked.console act) → Opt (To-controller-ok numbering isMessage) (ends.console-acts offered e act .sent)

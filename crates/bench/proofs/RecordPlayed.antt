@@ -16,6 +16,7 @@ use Rattle.rules.specs.Supply.{numbering, Numbers}
 use Rattle.rules.specs.Letters as letters
 use Rattle.rules.specs.Letters.{letter}
 use Rattle.rules.specs.Bench as rules
+use Rattle.rules.specs.Reading.{Reading, Read, read-step}
 use Rattle.rules.specs.WellFormed.{Well-formed}
 use Rattle.rules.proofs.Letters.{letter-of}
 use Rattle.rules.proofs.Supply.{numbering-lawful}
@@ -28,12 +29,12 @@ use Rattle.letters.specs.declared.Line.{Line}
 use Rattle.ends.specs.declared.Report.the-variants.{Refused}
 use Rattle.channels.specs.Packets.{toControllerBytes, toConsoleBytes}
 use Rattle.channels.specs.Table.{channel}
-use Rattle.bench.specs.AsRules.{benchOk, benchMeans, benchBack}
+use Rattle.bench.specs.AsRules.{benchOk, benchReads, benchBack}
 use Rattle.bench.specs.Promise.{Result, benchRefused, benchTold, benchStep}
 use Rattle.bench.specs.Reports.{letterCell, reportCells, reportLine}
 use Rattle.bench.specs.Running.{usesOf, actionWith, actionAs, listAction, playedAs, played}
-use Rattle.bench.specs.ByModes.{RulesOutcome, shownOf, actionOf}
-use Rattle.bench.specs.Loaded.{Well, steppedAs, loadedMeans, loadedStep, benchOf, outcomeOf, FoundLined, recordOutcome, lineStep, recordStep, Played}
+use Rattle.bench.specs.ByModes.{actionOf}
+use Rattle.bench.specs.Loaded.{Well, ReadOutcome, steppedAs, readOf, loadedMeans, loadedReads, loadedStep, benchOf, outcomeOf, FoundLined, recordOutcome, lineStep, recordStep, Played}
 use Rattle.bench.specs.declared.Bench.{Bench}
 use Rattle.bench.specs.declared.loaded.Loaded.{Loaded}
 use Rattle.bench.specs.declared.loaded.Stepped.{Stepped}
@@ -44,11 +45,11 @@ use Rattle.bench.proofs.StepEntry.{bench-of, told-so}
 
 module _ (b : Loaded) (out back s : List ℕ) (k : Well b out back) where
   -- a refusal 1 leaves the bench
-  refused-1 : {t : Stepped} → t ≡ record { report = Refused 1; message = spaces; after = b } → steppedAs t out back ≡ shownOf (recordOutcome found.Nothing s b out back)
-  unfolding steppedAs shownOf
+  refused-1 : {t : Stepped} → t ≡ record { report = Refused 1; message = spaces; after = b } → steppedAs t out back ≡ readOf (recordOutcome found.Nothing s b out back)
+  unfolding steppedAs readOf
   refused-1 q =
       ap (λ (x : Stepped). steppedAs x out back) q
-      ∙ (λ i. record { report = Refused 1; message = spaces; after = loadedMeans b out back; out = k .out-holds i; back = k .back-holds i })
+      ∙ (λ i. record { report = Refused 1; message = spaces; after = loadedReads b out back; out = k .out-holds i; back = k .back-holds i })
 
   -- with the letter's line
   module _ (l : Line) {r : Fields} (e : r ≡ listRecord (usesOf l) s) where
@@ -56,18 +57,18 @@ module _ (b : Loaded) (out back s : List ℕ) (k : Well b out back) where
     unfolding lineStep if_then_else_
     line-refused f q = refused-1 q ∙ rw (← e, f)
 
-    pub line-played : {w : RulesOutcome Numbers} → r .fits ≡ true → w ≡ loadedStep b out back l (actionWith l r) → w ≡ lineStep b out back l s
+    pub line-played : {w : ReadOutcome} → r .fits ≡ true → w ≡ loadedStep b out back l (actionWith l r) → w ≡ lineStep b out back l s
     unfolding lineStep loadedStep if_then_else_
     line-played f q = q ∙ rw (← e, f)
 
   module _ {f : Found} (e : f ≡ foundOf (letter (getD s 0 0))) where
     pub play-refused : {t : Stepped} → f ≡ found.Nothing → t ≡ record { report = Refused 1; message = spaces; after = b } → steppedAs t out back ≡ recordStep b out back s
     unfolding recordStep
-    play-refused h q = refused-1 q ∙ ap (λ (x : Found). shownOf (recordOutcome x s b out back)) (sym h ∙ e)
+    play-refused h q = refused-1 q ∙ ap (λ (x : Found). readOf (recordOutcome x s b out back)) (sym h ∙ e)
 
-    pub play-line : {l : Line} {w : RulesOutcome Numbers} → f ≡ found.Line l → w ≡ lineStep b out back l s → w ≡ recordStep b out back s
+    pub play-line : {l : Line} {w : ReadOutcome} → f ≡ found.Line l → w ≡ lineStep b out back l s → w ≡ recordStep b out back s
     unfolding recordStep lineStep
-    play-line h q = q ∙ ap (λ (x : Found). shownOf (recordOutcome x s b out back)) (sym h ∙ e)
+    play-line h q = q ∙ ap (λ (x : Found). readOf (recordOutcome x s b out back)) (sym h ∙ e)
 
 -- what was found is a line of the table
 pub lined-letter : {f : Found} (s : List ℕ) {l : Line} → f ≡ foundOf (letter (getD s 0 0)) → f ≡ found.Line l → Lined l
@@ -79,8 +80,8 @@ lined-found (some l) = found-lined (some l) refl .1
 
 -- ## What is known afterwards
 
-outcome-ok : (f : Found) (s : List ℕ) (b : Loaded) (out back : List ℕ) → Well b out back → Well-formed numbering isMessage (recordOutcome f s b out back .after)
-unfolding if_then_else_
+outcome-ok : (f : Found) (s : List ℕ) (b : Loaded) (out back : List ℕ) → Well b out back → Well-formed numbering isMessage (recordOutcome f s b out back .after .history)
+unfolding read-step if_then_else_
 outcome-ok found.Nothing s b out back k = k .well-formed
 outcome-ok (found.Line l) s b out back k =
     let r = listRecord (usesOf l) s in
@@ -88,21 +89,21 @@ outcome-ok (found.Line l) s b out back k =
     (λ y. rw y (step-well-formed numbering numbering-lawful isMessage (loadedMeans b out back) (actionOf l (actionWith l r)) (k .well-formed)))
     (λ n. rw n (k .well-formed))
 
-known-after : (t : Stepped) (out back : List ℕ) (o : rules.Outcome Numbers (List ℕ)) → Well-formed numbering isMessage (o .after) → steppedAs t out back ≡ shownOf o → Well (t .after) out back
-unfolding steppedAs shownOf
+known-after : (t : Stepped) (out back : List ℕ) (o : Read (rules.Bench Numbers (List ℕ)) (List ℕ)) → Well-formed numbering isMessage (o .after .history) → steppedAs t out back ≡ readOf o → Well (t .after) out back
+unfolding steppedAs readOf
 known-after t out back o w e =
-    let a : loadedMeans (t .after) out back ≡ o .after = ap (λ (x : RulesOutcome Numbers). x .after) e in
+    let a : loadedMeans (t .after) out back ≡ o .after .history = ap (λ (x : ReadOutcome). x .after .history) e in
     record {
       well-formed = subst (Well-formed numbering isMessage) (sym a) w;
-      out-holds = ap (λ (x : RulesOutcome Numbers). x .out) e ∙ ap (λ (x : rules.Bench Numbers (List ℕ)). channel toControllerBytes (x .toController)) (sym a);
-      back-holds = ap (λ (x : RulesOutcome Numbers). x .back) e ∙ ap (λ (x : rules.Bench Numbers (List ℕ)). channel toConsoleBytes (x .toConsole)) (sym a);
+      out-holds = ap (λ (x : ReadOutcome). x .out) e ∙ ap (λ (x : rules.Bench Numbers (List ℕ)). channel toControllerBytes (x .toController)) (sym a);
+      back-holds = ap (λ (x : ReadOutcome). x .back) e ∙ ap (λ (x : rules.Bench Numbers (List ℕ)). channel toConsoleBytes (x .toConsole)) (sym a);
     }
 
 -- ## The promise's step
 
 module _ (b : Loaded) (out back : List ℕ) (k : Well b out back) where
-  abbrev B : rules.Bench Numbers (List ℕ)
-  B = loadedMeans b out back
+  abbrev B : Reading (rules.Bench Numbers (List ℕ))
+  B = loadedReads b out back
 
   same-bench : benchOf b ≡ benchBack B
   same-bench = bench-of b out back
@@ -110,8 +111,8 @@ module _ (b : Loaded) (out back : List ℕ) (k : Well b out back) where
   passes : benchOk (benchOf b) out back ≡ true
   passes = (λ i. benchOk (same-bench i) (k .out-holds i) (k .back-holds i)) ∙ stands-ok B (k .well-formed)
 
-  means : benchMeans (benchOf b) out back ≡ B
-  means = (λ i. benchMeans (same-bench i) (k .out-holds i) (k .back-holds i)) ∙ stands-for B (k .well-formed)
+  means : benchReads (benchOf b) out back ≡ B
+  means = (λ i. benchReads (same-bench i) (k .out-holds i) (k .back-holds i)) ∙ stands-for B (k .well-formed)
 
   -- a refusal 1 leaves the bench
   one : benchTold (recordOutcome found.Nothing [] b out back) ≡ benchRefused 1 (benchOf b) out back

@@ -12,15 +12,16 @@ use Rattle.rules.specs.Supply.{numbering}
 use Rattle.rules.specs.Letters.{Letter, letter}
 use Rattle.rules.specs.Ends as ends
 use Rattle.rules.specs.Bench as rules
+use Rattle.rules.specs.Reading.{use-by, said, ack-after, read, read-step}
+use Rattle.ends_console.proofs.ShownReport.{refused-below}
 use Rattle.rules.proofs.Bench.{step-refused-same}
 use Rattle.ends_console.proofs.FieldsAsRules.{unchanged}
 use Rattle.ends_controller.proofs.FieldsAsRules as controller-fields
 use Rattle.ends.specs.AsRules.{numberIn}
-use Rattle.ends.proofs.Reports.{refused-in-rules}
 use Rattle.ends.specs.declared.Report.the-variants as report
 use Rattle.channels.proofs.Channel.{packets-length}
 use Rattle.channels.proofs.Packets.{to-controller-coded, to-console-coded}
-use Rattle.bench.specs.AsRules.{benchOk, benchMeans, benchBack}
+use Rattle.bench.specs.AsRules.{benchOk, benchMeans, benchReads, benchBack}
 use Rattle.bench.specs.Promise.{benchRefused, benchTold, stepOf, benchStep}
 use Rattle.bench.specs.Loaded.{Typed, loadedMeans, loadedOf}
 use Rattle.bench.specs.declared.Action.{Action}
@@ -35,7 +36,7 @@ module _ (b : Bench) (out back : List ℕ) where
 
   module _ (typed : Typed (b .console) (b .controller)) (p : Bytes out) (q : Bytes back) where
     -- a well-formed bench is what it means, as fields and tables
-    same : benchOk b out back ≡ true → (n : ℕ) → benchTold (record { report = ends.refused n; after = benchMeans b out back }) ≡ benchRefused n b out back
+    same : benchOk b out back ≡ true → (n : ℕ) → benchTold (record { report = ends.refused n; after = benchReads b out back }) ≡ benchRefused n b out back
     unfolding benchTold benchRefused benchBack benchMeans loadedOf loadedMeans
     same ok n =
         let k = passes-well b out back ok typed p q in
@@ -58,13 +59,15 @@ module _ (b : Bench) (out back : List ℕ) where
         }
 
     told-same : (a : rules.Action (List ℕ)) (n : ℕ) → benchOk b out back ≡ true
-        → benchTold (rules.step numbering isMessage (benchMeans b out back) a) .outcome .report ≡ report.Refused n
-        → benchTold (rules.step numbering isMessage (benchMeans b out back) a) ≡ benchRefused n b out back
-    unfolding benchTold
+        → benchTold (read-step numbering isMessage (benchReads b out back) a) .outcome .report ≡ report.Refused n
+        → benchTold (read-step numbering isMessage (benchReads b out back) a) ≡ benchRefused n b out back
+    unfolding benchTold read-step said ack-after
     told-same a n ok e =
-        let o = rules.step numbering isMessage (benchMeans b out back) a in
-        let f : o .report ≡ ends.refused n = refused-in-rules (o .report) n e in
-        (λ i. benchTold (record { report = f i; after = step-refused-same numbering isMessage (benchMeans b out back) a n f i })) ∙ same ok n
+        let B = benchMeans b out back in
+        let u = use-by (rules.asks B (a .letter) (a .place) (a .message)) in
+        let o = rules.step numbering isMessage B a in
+        let f : o .report ≡ ends.refused n = refused-below u (b .console .ack) (o .report) n e in
+        (λ i. benchTold (read u (b .console .ack) (f i) (step-refused-same numbering isMessage B a n f i))) ∙ same ok n
 
     of-letter : (l : Option Letter) (a : Action) (n : ℕ) → stepOf l b a out back .outcome .report ≡ report.Refused n → stepOf l b a out back ≡ benchRefused n b out back
     unfolding if_then_else_

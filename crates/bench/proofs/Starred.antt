@@ -35,7 +35,7 @@ abbrev pub says : Check → Seen
 says c = (map toldOf (c .said), (benchBack (c .left), out (c .left), back (c .left)))
 
 abbrev Starts : Check → Type 0
-Starts c = Well-formed numbering isMessage (c .start)
+Starts c = Well-formed numbering isMessage (c .start .history)
 
 one : (c : Check) → Starts c → seen c ≡ says (played c)
 unfolding played
@@ -65,8 +65,19 @@ stray =
 started : All Starts starred
 unfolding starred
 started =
-    let new = ready 0 0 (omega arith) (omega arith) in
-    (new, (ready 4_294_967_294 0 (omega arith) (omega arith), (ready 4_294_967_295 0 (omega arith) (omega arith), (ready 0 4_294_967_295 (omega arith) (omega arith), (new, (new, (new, (new, (new, (new, (new, (new, (stray, tt)))))))))))))
+    let new = ready 0 0 (omega arith) (omega arith) in (
+      new,
+      (
+        ready 4_294_967_294 0 (omega arith) (omega arith),
+        (
+          ready 4_294_967_295 0 (omega arith) (omega arith),
+          (
+            ready 0 4_294_967_295 (omega arith) (omega arith),
+            (new, (new, (new, (new, (new, (new, (new, (new, (new, (new, (new, (new, (new, (new, (stray, tt))))))))))))))),
+          ),
+        ),
+      ),
+    )
 
 pub starred-of-the-step : map seen starred ≡ map says starred
 starred-of-the-step = each starred started ∙ ap (map says) starred-hold

@@ -14,6 +14,7 @@ use Rattle.rules.specs.Supply.{numbering, Numbers}
 use Rattle.rules.specs.Letters as letters
 use Rattle.rules.specs.Letters.{letter}
 use Rattle.rules.specs.Bench as rules
+use Rattle.rules.specs.Reading.{Reading, reading, Read, read-step}
 use Rattle.rules.specs.Relabel.{in-console}
 use Rattle.wire.specs.declared.Direction.the-variants.{ToController, ToConsole}
 use Rattle.letters.specs.Lines.{foundOf, Lined}
@@ -42,10 +43,10 @@ use Rattle.channels.specs.Packets.{toControllerRead, toConsoleRead}
 use Rattle.channels.specs.Table.{packets, tableOk}
 use Rattle.channels.proofs.Channel.{packets-length, channel-none}
 use Rattle.channels.proofs.Packets.{to-controller-coded, to-console-coded}
-use Rattle.bench.specs.AsRules.{benchOk, benchMeans, benchBack}
+use Rattle.bench.specs.AsRules.{benchOk, benchMeans, benchReads, benchBack}
 use Rattle.bench.specs.Promise.{Result, benchRefused, benchTold, stepOf, benchStep, freshRules, benchFresh}
-use Rattle.bench.specs.ByModes.{shownOf, actionOf}
-use Rattle.bench.specs.Loaded.{loadedMeans, loadedOf, steppedAs, loadedStep, benchOf, outcomeOf, linedStep}
+use Rattle.bench.specs.ByModes.{actionOf}
+use Rattle.bench.specs.Loaded.{loadedMeans, loadedReads, loadedOf, steppedAs, readOf, loadedStep, benchOf, outcomeOf, linedStep}
 use Rattle.bench.specs.declared.Action.{Action}
 use Rattle.bench.specs.declared.Bench.{Bench}
 use Rattle.bench.specs.declared.Outcome.{Outcome}
@@ -56,20 +57,20 @@ use Rattle.bench.proofs.BenchRead.{passes}
 -- ## The step of a letter that is an action
 
 -- the fields of a bench by its modes are those of what it means
-pub bench-of : (b : Loaded) (out back : List ℕ) → benchOf b ≡ benchBack (loadedMeans b out back)
+pub bench-of : (b : Loaded) (out back : List ℕ) → benchOf b ≡ benchBack (loadedReads b out back)
 unfolding benchBack loadedMeans
 bench-of b out back =
     λ i.
     record {
-      console = sym (console-fields.fields-of (b .console) (b .modes .console .mode) (b .modes .console .up) (b .modes .console .held)) i;
+      console = sym (console-fields.fields-of (b .console) (b .modes .console .mode) (b .modes .console .up) (b .ack) (b .modes .console .held)) i;
       controller = sym (controller-fields.fields-of (b .controller) (b .modes .controller .mode) (b .modes .controller .up)) i;
       sent = sym (packets-length to-controller-coded (b .modes .sent) out) i;
       returned = sym (packets-length to-console-coded (b .modes .returned) back) i;
     }
 
 -- what the private step tells, as the outcome has it
-pub told-so : (t : Stepped) (out back : List ℕ) (o : rules.Outcome Numbers (List ℕ)) → steppedAs t out back ≡ shownOf o → record { outcome = outcomeOf t; out = out; back = back } ≡ benchTold o
-unfolding steppedAs shownOf outcomeOf benchTold
+pub told-so : (t : Stepped) (out back : List ℕ) (o : Read (rules.Bench Numbers (List ℕ)) (List ℕ)) → steppedAs t out back ≡ readOf o → record { outcome = outcomeOf t; out = out; back = back } ≡ benchTold o
+unfolding steppedAs readOf outcomeOf benchTold
 told-so t out back o e =
     (λ i. record { outcome = record { report = t .report; message = t .message; bench = bench-of (t .after) out back i }; out = out; back = back })
     ∙ λ i. record { outcome = record { report = e i .report; message = e i .message; bench = benchBack (e i .after) }; out = e i .out; back = e i .back }
@@ -103,24 +104,25 @@ module _ (b : Bench) (line : Line) (a : Action) (out back : List ℕ) {e : conso
   pub tables-ill : {x : Outcome} → not ok ≡ true → x ≡ refusing 2 b → record { outcome = x; out = out; back = back } ≡ linedStep b line a out back
   tables-ill n q = ill-so b line a out back (passes b out back r s t ∙ not-true ok n) q
 
-  means-is : benchMeans b out back ≡ loadedMeans (loadedOf e (b .console .message) f (b .sent) (b .returned)) out back
+  means-is : benchReads b out back ≡ loadedReads (loadedOf e (b .console .ack) (b .console .message) f (b .sent) (b .returned)) out back
   unfolding benchMeans loadedMeans loadedOf
   means-is =
       λ i.
-      record {
+      reading
+      (record {
         console = in-console (λ _. b .console .message) (console-rules.end (sym (console-read-fields.was-read (b .console) r .1) i));
         controller = controller-rules.end (sym (controller-read-fields.was-read (b .controller) s .1) i);
         toController = packets toControllerRead (b .sent) out;
         toConsole = packets toConsoleRead (b .returned) back;
-      }
+      }) (b .console .ack)
 
-  pub ends-step : {l : Loaded} (w : Stepped) {x : Outcome} {out′ back′ : List ℕ} → not ok ≡ false → l ≡ loadedOf e (b .console .message) f (b .sent) (b .returned) → steppedAs w out′ back′ ≡ loadedStep l out back line a
+  pub ends-step : {l : Loaded} (w : Stepped) {x : Outcome} {out′ back′ : List ℕ} → not ok ≡ false → l ≡ loadedOf e (b .console .ack) (b .console .message) f (b .sent) (b .returned) → steppedAs w out′ back′ ≡ loadedStep l out back line a
       → x ≡ outcomeOf w → record { outcome = x; out = out′; back = back′ } ≡ linedStep b line a out back
   unfolding linedStep loadedStep actionOf if_then_else_
   ends-step {l} w {x} {out′} {back′} n g h q =
       (λ j. record { outcome = q j; out = out′; back = back′ })
-      ∙ told-so w out′ back′ (rules.step numbering isMessage (benchMeans b out back) (actionOf line a))
-      (h ∙ ap (λ (y : Loaded). loadedStep y out back line a) g ∙ ap (λ (y : rules.Bench Numbers (List ℕ)). shownOf (rules.step numbering isMessage y (actionOf line a))) (sym means-is))
+      ∙ told-so w out′ back′ (read-step numbering isMessage (benchReads b out back) (actionOf line a))
+      (h ∙ ap (λ (y : Loaded). loadedStep y out back line a) g ∙ ap (λ (y : Reading (rules.Bench Numbers (List ℕ))). readOf (read-step numbering isMessage y (actionOf line a))) (sym means-is))
       ∙ rw (passes b out back r s t, not-false ok n)
 
 -- ## The step

@@ -1,7 +1,7 @@
 -- What a step leaves where the rules' bench stands: such a bench again, the same one on a refusal; 16 cells beside its report; and a refusal's number
 -- from 1 to 15.
 use Prim.Native.Nat.{ℕ, _≤_}
-use mathlib.Core.Path.{_≡_, refl, sym, ap, subst}
+use mathlib.Core.Path.{_≡_, refl, sym, ap, subst, _∙_}
 use mathlib.Core.Bool.{Bool, true}
 use mathlib.Core.Option.{Option, none, some}
 use mathlib.Core.List.{List, [], _∷_, map}
@@ -18,6 +18,8 @@ use Rattle.rules.specs.Letters as letters
 use Rattle.rules.specs.Letters.{Letter, letter}
 use Rattle.rules.specs.Ends as ends
 use Rattle.rules.specs.Bench as rules
+use Rattle.rules.specs.Reading.{Use, use-by, ack-after, reading, read-step}
+use Rattle.ends_console.proofs.ShownReport.{refused-below}
 use Rattle.rules.specs.Lists.{Opt}
 use Rattle.rules.specs.WellFormed.{Well-formed, To-controller-ok}
 use Rattle.rules.proofs.Bench.{step-refused, step-refused-same}
@@ -26,7 +28,6 @@ use Rattle.rules.proofs.Lists.{all-at, if-holds}
 use Rattle.rules.proofs.Supply.{numbering-lawful}
 use Rattle.rules.proofs.WellFormed.{step-well-formed}
 use Rattle.ends.specs.AsRules.{numberIn, delivered}
-use Rattle.ends.proofs.Reports.{refused-in-rules}
 use Rattle.ends.specs.declared.Report.{Report}
 use Rattle.ends.specs.declared.Report.the-variants as report
 use Rattle.bench.proofs.Reports.{TwoDigits}
@@ -34,7 +35,8 @@ use Rattle.bench.specs.AsRules.{benchBack}
 use Rattle.bench.specs.Promise.{Result, benchRefused, benchTold, benchStep}
 use Rattle.bench.specs.Orders.{asRules}
 use Rattle.bench.specs.declared.Action.{Action}
-use Rattle.bench.proofs.Orders.{out, back, step-of, step-none}
+use Rattle.bench.proofs.Orders.{Here, out, back, step-of, step-none}
+use Rattle.bench.proofs.AckShown.{said-message}
 
 -- ## 16 cells beside every report
 
@@ -85,6 +87,7 @@ module _ (b : rules.Bench Numbers (List ℕ)) (w : Well-formed numbering isMessa
   effect-long letters.Y-back k n m = refl
   effect-long letters.L-lose k n m = refl
   effect-long letters.M-lose k n m = refl
+  effect-long letters.A-ack k n m = told-long (b .console) _
 
   step-long : (a : rules.Action (List ℕ)) → Long (rules.step numbering isMessage b a .report)
   unfolding rules.step
@@ -106,9 +109,14 @@ refusal-low rs = first-low (applies rs) refusalOrder refl
 
 -- ## What a step leaves
 
-pub record Leaves (b : rules.Bench Numbers (List ℕ)) (r : Result) : Type 0 where
-  pub after : rules.Bench Numbers (List ℕ)
-  pub well-formed : Well-formed numbering isMessage after
+-- with a refusal the bench and the ack stay
+refusal-keeps : (u : Use) (ack : Bool) {r : ends.Report (List ℕ)} {n : ℕ} {x y : rules.Bench Numbers (List ℕ)} → r ≡ ends.refused n → x ≡ y → reading x (ack-after u ack r) ≡ reading y ack
+unfolding ack-after
+refusal-keeps u ack e f = λ i. reading (f i) (ack-after u ack (e i))
+
+pub record Leaves (b : Here) (r : Result) : Type 0 where
+  pub after : Here
+  pub well-formed : Well-formed numbering isMessage (after .history)
   pub bench-is : r .outcome .bench ≡ benchBack after
   pub out-is : r .out ≡ out after
   pub back-is : r .back ≡ back after
@@ -116,7 +124,7 @@ pub record Leaves (b : rules.Bench Numbers (List ℕ)) (r : Result) : Type 0 whe
   pub kept : (n : ℕ) → r .outcome .report ≡ report.Refused n → after ≡ b
   pub numbered : (n : ℕ) → r .outcome .report ≡ report.Refused n → (1 ≤ n) × (n ≤ 15)
 
-module _ (b : rules.Bench Numbers (List ℕ)) (w : Well-formed numbering isMessage b) where
+module _ (b : Here) (w : Well-formed numbering isMessage (b .history)) where
   refused-leaves : Leaves b (benchRefused 1 (benchBack b) (out b) (back b))
   unfolding benchRefused
   refused-leaves =
@@ -131,22 +139,24 @@ module _ (b : rules.Bench Numbers (List ℕ)) (w : Well-formed numbering isMessa
         numbered = λ n e. let q : 1 ≡ n = ap numberIn e in (omega (arith, q), omega (arith, q));
       }
 
-  told-leaves : (a : rules.Action (List ℕ)) → Leaves b (benchTold (rules.step numbering isMessage b a))
-  unfolding benchTold
+  told-leaves : (a : rules.Action (List ℕ)) → Leaves b (benchTold (read-step numbering isMessage b a))
+  unfolding benchTold read-step
   told-leaves a =
-      let o = rules.step numbering isMessage b a in
+      let B = b .history in
+      let u = use-by (rules.asks B (a .letter) (a .place) (a .message)) in
+      let o = rules.step numbering isMessage B a in
       record {
-        after = o .after;
-        well-formed = step-well-formed numbering numbering-lawful isMessage b a w;
+        after = reading (o .after) (ack-after u (b .ack) (o .report));
+        well-formed = step-well-formed numbering numbering-lawful isMessage B a w;
         bench-is = refl;
         out-is = refl;
         back-is = refl;
-        long = step-long b w a;
-        kept = λ n e. step-refused-same numbering isMessage b a n (refused-in-rules (o .report) n e);
+        long = sym (ap length (said-message u (b .ack) (o .report))) ∙ step-long B w a;
+        kept = λ n e. let r = refused-below u (b .ack) (o .report) n e in refusal-keeps u (b .ack) r (step-refused-same numbering isMessage B a n r);
         numbered =
             λ n e.
-            let q = step-refused numbering isMessage b a n .0 (refused-in-rules (o .report) n e) in
-            let low = refusal-low (rules.rules-of numbering isMessage b a) in
+            let q = step-refused numbering isMessage B a n .0 (refused-below u (b .ack) (o .report) n e) in
+            let low = refusal-low (rules.rules-of numbering isMessage B a) in
             (omega (arith, q .1), omega (arith, q .0, low));
       }
 
@@ -165,5 +175,5 @@ two-digits report.Ok h = tt
 two-digits report.Lost h = tt
 two-digits (report.Refused n) h = let k = h n refl .1 in omega (arith, k)
 
-pub step-two-digits : (b : rules.Bench Numbers (List ℕ)) → Well-formed numbering isMessage b → (a : Action) → TwoDigits (benchStep (benchBack b) a (out b) (back b) .outcome .report)
+pub step-two-digits : (b : Here) → Well-formed numbering isMessage (b .history) → (a : Action) → TwoDigits (benchStep (benchBack b) a (out b) (back b) .outcome .report)
 step-two-digits b w a = two-digits _ (step-leaves b w a .numbered)

@@ -12,6 +12,7 @@ use Rattle.wire.specs.Packet.{isBlank, packetBytes, headOf, headAt, readRefusal
 use Rattle.rules.specs.Letters.{letters, among, letter}
 use Rattle.rules.specs.Ends.{ToController, needI, order, done, ToConsole, offer, ok}
 use Rattle.rules.specs.Bench as rules
+use Rattle.rules.specs.Reading.{readings}
 use Rattle.rules.specs.Supply.{numbers-rules}
 use Rattle.numbers.specs.Numbers.{numbersFresh}
 use Rattle.ends_console.specs.Fields.{consoleOk, consoleMode, consoleWith, freshConsole, downedConsole}
@@ -34,7 +35,7 @@ use Rattle.bench.specs.declared.Bench.{Bench}
 unfoldable pub computes : Unit {0}
 unfolding benchStep benchFresh benchRefused benchTold benchBack benchMeans benchOk consoleOk consoleMode controllerOk controllerMode tableOk
     placesOk packets channel laid toControllerBytes toControllerRead toConsoleBytes toConsoleRead packetBytes packetRead readRefusal headAt headOf
-    value bytesOf isBlank isMessage cells filled letters among letter rules.rules numbers-rules if_then_else_
+    value bytesOf isBlank isMessage cells filled letters among letter rules.rules readings numbers-rules if_then_else_
 computes = tt
 
 -- ## Benches and actions
@@ -95,10 +96,10 @@ unfolding computes
 tables-ill = refl
 
 abbrev holds : List ℕ → ℕ → ℕ → Console
-holds m j last = record { numbers = record { used = 3; reserved = 66; block = 64 }; held = true; message = m; j = record { 0 = j }; last = record { 0 = last }; up = true }
+holds m j last = record { numbers = record { used = 3; reserved = 66; block = 64 }; held = true; message = m; j = record { 0 = j }; last = record { 0 = last }; up = true; ack = false }
 
 abbrev holds-none : List ℕ → ℕ → ℕ → Console
-holds-none m j last = record { numbers = record { used = 3; reserved = 66; block = 64 }; held = false; message = m; j = record { 0 = j }; last = record { 0 = last }; up = true }
+holds-none m j last = record { numbers = record { used = 3; reserved = 66; block = 64 }; held = false; message = m; j = record { 0 = j }; last = record { 0 = last }; up = true; ack = false }
 
 abbrev has : ℕ → ℕ → ℕ → Controller
 has j i last = record { numbers = record { used = 3; reserved = 66; block = 64 }; j = record { 0 = j }; i = record { 0 = i }; last = record { 0 = last }; up = true }
@@ -123,7 +124,7 @@ unfolding computes
 ends-ill = refl
 
 abbrev idle-with : ℕ → ℕ → ℕ → Console
-idle-with used reserved block = consoleWith (record { used = used; reserved = reserved; block = block }) console-mode.Idle true spaces
+idle-with used reserved block = consoleWith (record { used = used; reserved = reserved; block = block }) console-mode.Idle true false spaces
 
 abbrev free-with : ℕ → ℕ → ℕ → Controller
 free-with used reserved block = controllerWith (record { used = used; reserved = reserved; block = block }) controller-mode.Idle true
@@ -154,7 +155,7 @@ abbrev spent : ℕ
 spent = 4294967295
 
 abbrev no-more : Console
-no-more = consoleWith (numbersFresh spent) (Send (record { 0 = 1 })) true (row 0x41)
+no-more = consoleWith (numbersFresh spent) (Send (record { 0 = 1 })) true false (row 0x41)
 
 -- nothing in the air: a console, and what it is asked
 abbrev told : Console × Action → Report

@@ -115,6 +115,7 @@ module _ (b : Modes) (o : Offered) (out back : List ℕ) (a : Action) (k : Known
   by-letter letters.Y-back f u oj oi = record { begun = record { lined = refl; few = f }; offers = oi; asks = refl; takes = refl; silent = λ _ e. refl; seven = λ e h. quiet (o .unknown) _ u }
   by-letter letters.L-lose f u oj oi = record { begun = record { lined = refl; few = f }; asks = refl; takes = refl; takes-one = tt; place = refl }
   by-letter letters.M-lose f u oj oi = record { begun = record { lined = refl; few = f }; asks = refl; takes = refl; takes-one = tt; place = refl }
+  by-letter letters.A-ack f u oj oi = record { begun = record { lined = refl; few = f }; offers = oj; asks = refl; takes = refl; message = refl; silent = λ _ e. refl }
 
   module _ (line : Line) (came : Came) (n : Few line a) (c : Arrived b o out back line a came) where
     relied : Relied line came (line .asks)

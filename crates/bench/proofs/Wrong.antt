@@ -51,7 +51,7 @@ clear = replicate 2048 0
 abbrev asking : ℕ → Bench
 asking sent =
     record {
-      console = consoleWith (record { used = 1; reserved = 64; block = 64 }) (NeedI (record { 0 = 1 })) true spaces;
+      console = consoleWith (record { used = 1; reserved = 64; block = 64 }) (NeedI (record { 0 = 1 })) true false spaces;
       controller = freshController (record { 0 = 0 });
       sent = sent;
       returned = 0;
@@ -126,7 +126,7 @@ abbrev contradicts : Bench
 contradicts =
     record {
       console =
-          record { numbers = record { used = 1; reserved = 64; block = 64 }; held = false; message = spaces; j = record { 0 = 1 }; last = record { 0 = 0 }; up = true };
+          record { numbers = record { used = 1; reserved = 64; block = 64 }; held = false; message = spaces; j = record { 0 = 1 }; last = record { 0 = 0 }; up = true; ack = false };
       controller = freshController (record { 0 = 0 });
       sent = 0;
       returned = 0;

@@ -39,6 +39,7 @@ cameFor (asked.Console console.SendData) out sent back returned place = nothingC
 cameFor (asked.Console console.Take) out sent back returned place = cameBack back returned place
 cameFor (asked.Console console.GoDown) out sent back returned place = nothingCame
 cameFor (asked.Console console.ComeBack) out sent back returned place = nothingCame
+cameFor (asked.Console console.TellAck) out sent back returned place = nothingCame
 cameFor (asked.Controller controller.SendOffer) out sent back returned place = nothingCame
 cameFor (asked.Controller controller.SendOk) out sent back returned place = nothingCame
 cameFor (asked.Controller controller.Take) out sent back returned place = cameOut out sent place

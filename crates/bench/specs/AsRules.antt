@@ -6,6 +6,7 @@ use lib.ListN.{length}
 use Rattle.wire.specs.declared.Direction.the-variants.{ToController, ToConsole}
 use Rattle.rules.specs.Supply.{Numbers}
 use Rattle.rules.specs.Bench as rules
+use Rattle.rules.specs.Reading.{Reading, reading}
 use Rattle.ends_console.specs.Fields.{consoleOk}
 use Rattle.ends_controller.specs.Fields.{controllerOk}
 use Rattle.ends_console.specs.FieldsAsRules.{consoleMeans, consoleBack}
@@ -28,11 +29,15 @@ benchMeans b out back =
       toConsole = packets toConsoleRead (b .returned) back;
     }
 
-unfoldable pub benchBack : rules.Bench Numbers (List ℕ) → Bench
-benchBack w =
+-- with the console's ack beside it
+abbrev pub benchReads : Bench → List ℕ → List ℕ → Reading (rules.Bench Numbers (List ℕ))
+benchReads b out back = reading (benchMeans b out back) (b .console .ack)
+
+unfoldable pub benchBack : Reading (rules.Bench Numbers (List ℕ)) → Bench
+benchBack r =
     record {
-      console = consoleBack (w .console);
-      controller = controllerBack (w .controller);
-      sent = length (w .toController);
-      returned = length (w .toConsole);
+      console = consoleBack (reading (r .history .console) (r .ack));
+      controller = controllerBack (r .history .controller);
+      sent = length (r .history .toController);
+      returned = length (r .history .toConsole);
     }

@@ -129,6 +129,7 @@ puts asked.SendData = false
 puts asked.Take = false
 puts asked.GoDown = false
 puts asked.ComeBack = false
+puts asked.TellAck = false
 
 -- a packet lost on its way
 abbrev pub lostFrom : Takes → rules.Taken

@@ -2,6 +2,7 @@
 -- and what a reader of records and lines sees is a right log without the puts' numbers. Assumes nothing.
 use Prim.Native.Nat.{ℕ, suc, _*_}
 use mathlib.Core.Path.{_≡_}
+use mathlib.Core.Bool.{true, false}
 use mathlib.Core.Option.{Option, none, some, Option·map}
 use mathlib.Core.List.{List, [], _∷_, _++_, map}
 use lib.ListN.{length, getD, take, drop, replicate}
@@ -9,10 +10,9 @@ use Rattle.ground.specs.Cell.{spaces}
 use Rattle.ground.specs.Bytes.{field}
 use Rattle.wire.specs.declared.I.{I}
 use Rattle.wire.specs.declared.J.{J}
-use Rattle.rules.specs.Supply.{fresh-numbers}
-use Rattle.rules.specs.Bench.{fresh}
 use Rattle.rules.specs.Log.{Event}
 use Rattle.rules.specs.Demand3.{unnumbered}
+use Rattle.rules.specs.ReadDemand3.{firsts, spares-lost}
 use Rattle.bench.specs.Orders.{freshOutcomes, shownBy, Rows, rowsOf, OrdersRight}
 use Rattle.bench.specs.Reports.{cellsSay, reportLine}
 use Rattle.bench.specs.Running.{recordsOf, listAction, limitOf}
@@ -69,5 +69,7 @@ pub record ListRight (input before after : List ℕ) (n : ℕ) : Type 0 where
   pub lines : take n after ≡ linesOf 1 (recordsIn input before) (freshOutcomes j₀ i₀ clear clear (actionsIn input before))
   pub rest : drop n after ≡ drop n before
   pub orders : OrdersRight j₀ i₀ clear clear (actionsIn input before)
-  -- the log whose orders are right, without the puts' numbers, is what the lines show
-  pub shown : map (Option·map unnumbered) (rowsOf [] (fresh (fresh-numbers 0) (fresh-numbers 0)) (actionsIn input before)) ≡ linesShow (recordsIn input before) after
+  -- the log whose orders are right, without the puts' numbers, is what the lines show, the first answer after each put
+  pub shown : map (Option·map unnumbered) (rowsOf j₀ i₀ (actionsIn input before)) ≡ firsts false (linesShow (recordsIn input before) after)
+  -- and a line of an A that is no put's answer says lost
+  pub spare : spares-lost false (linesShow (recordsIn input before) after) ≡ true

@@ -2,7 +2,7 @@
 -- promise of an entry. Assumes nothing.
 use Prim.Native.Nat.{ℕ, _<_, _^_}
 use mathlib.Core.Path.{_≡_}
-use mathlib.Core.Bool.{true}
+use mathlib.Core.Bool.{Bool, true, false}
 use mathlib.Core.Option.{some}
 use mathlib.Core.List.{List}
 use lib.ListN.{length, getD}
@@ -12,6 +12,7 @@ use Rattle.rules.specs.Supply as supply
 use Rattle.rules.specs.Supply.{numbering}
 use Rattle.rules.specs.Ends as ends
 use Rattle.rules.specs.Bench as rules
+use Rattle.rules.specs.Reading.{Reading, reading, Read, read-step}
 use Rattle.rules.specs.Relabel.{in-console}
 use Rattle.rules.specs.WellFormed.{Well-formed}
 use Rattle.rules.specs.Letters.{letter}
@@ -23,12 +24,14 @@ use Rattle.listing.specs.Record.{listRecord}
 use Rattle.listing.specs.declared.Fields.{Fields}
 use Rattle.numbers.specs.Numbers.{numbersMeans, numbersFresh, numberOr0, numbersAfter}
 use Rattle.numbers.specs.declared.Numbers.{Numbers}
-use Rattle.ends.specs.AsRules.{forController}
+use Rattle.ends.specs.AsRules.{forController, reportBack, delivered}
 use Rattle.ends.specs.declared.ForController.{ForController}
+use Rattle.ends.specs.declared.Report.{Report}
 use Rattle.ends_console.specs.AsRules as console
 use Rattle.ends_console.specs.Fields.{consoleWith}
 use Rattle.ends_console.specs.declared.Mode.the-variants as console-mode
 use Rattle.ends_console.specs.declared.End as console-end
+use Rattle.ends_console.specs.declared.ack.Shown.{Shown}
 use Rattle.ends_console.specs.declared.fields.Console.{Console}
 use Rattle.ends_controller.specs.AsRules as controller
 use Rattle.ends_controller.specs.Fields.{controllerWith}
@@ -37,7 +40,7 @@ use Rattle.ends_controller.specs.declared.End as controller-end
 use Rattle.ends_controller.specs.declared.fields.Controller.{Controller}
 use Rattle.channels.specs.Packets.{toControllerBytes, toControllerRead, toConsoleBytes, toConsoleRead}
 use Rattle.channels.specs.Table.{channel, packets}
-use Rattle.bench.specs.ByModes.{RulesOutcome, shownOf, actionOf}
+use Rattle.bench.specs.ByModes.{actionOf}
 use Rattle.bench.specs.Promise.{Result, stepOf}
 use Rattle.bench.specs.Reports.{reportLine}
 use Rattle.bench.specs.Running.{usesOf, actionWith, played, lines, recordsOf, limitOf}
@@ -60,6 +63,10 @@ loadedMeans b out back =
       toConsole = packets toConsoleRead (b .modes .returned) back;
     }
 
+-- with the ack beside it
+abbrev pub loadedReads : Loaded → List ℕ → List ℕ → Reading (rules.Bench supply.Numbers (List ℕ))
+loadedReads b out back = reading (loadedMeans b out back) (b .ack)
+
 -- well formed, and the tables hold these packets and zero bytes
 pub record Well (b : Loaded) (out back : List ℕ) : Type 0 where
   pub well-formed : Well-formed numbering isMessage (loadedMeans b out back)
@@ -77,21 +84,44 @@ offeredBy c d came =
       unknown = ends.unknown (numbering .used (numbersMeans d)) (forController came);
     }
 
-abbrev pub movedBy : Numbers → Numbers → Told → Stepped
-movedBy c d told =
+-- what is shown, and the ack then
+abbrev pub movedBy : Numbers → Numbers → Shown → Told → Stepped
+movedBy c d shown told =
     record {
-      report = told .report;
+      report = shown .report;
       message = told .message;
-      after = record { modes = told .after; console = numbersAfter (told .console) c; controller = numbersAfter (told .controller) d };
+      after = record { modes = told .after; console = numbersAfter (told .console) c; controller = numbersAfter (told .controller) d; ack = shown .ack };
     }
+
+-- where no answer arrives
+abbrev pub asItIs : Bool → Told → Shown
+asItIs ack told = record { report = told .report; ack = ack }
 
 -- ## The step
 
-unfoldable pub steppedAs : Stepped → List ℕ → List ℕ → RulesOutcome supply.Numbers
-steppedAs r out back = record { report = r .report; message = r .message; after = loadedMeans (r .after) out back; out = out; back = back }
+-- an outcome of the rules with readings, with what the code shows of it
+pub record ReadOutcome : Type 0 where
+  pub report : Report
+  pub message : List ℕ
+  pub after : Reading (rules.Bench supply.Numbers (List ℕ))
+  pub out : List ℕ
+  pub back : List ℕ
 
-unfoldable pub loadedStep : Loaded → List ℕ → List ℕ → Line → Action → RulesOutcome supply.Numbers
-loadedStep b out back line a = shownOf (rules.step numbering isMessage (loadedMeans b out back) (actionOf line a))
+unfoldable pub steppedAs : Stepped → List ℕ → List ℕ → ReadOutcome
+steppedAs r out back = record { report = r .report; message = r .message; after = loadedReads (r .after) out back; out = out; back = back }
+
+unfoldable pub readOf : Read (rules.Bench supply.Numbers (List ℕ)) (List ℕ) → ReadOutcome
+readOf o =
+    record {
+      report = reportBack (o .report);
+      message = delivered (o .report);
+      after = o .after;
+      out = channel toControllerBytes (o .after .history .toController);
+      back = channel toConsoleBytes (o .after .history .toConsole);
+    }
+
+unfoldable pub loadedStep : Loaded → List ℕ → List ℕ → Line → Action → ReadOutcome
+loadedStep b out back line a = readOf (read-step numbering isMessage (loadedReads b out back) (actionOf line a))
 
 -- ## Between the fields and the modes
 
@@ -102,18 +132,19 @@ pub record Typed (c : Console) (d : Controller) : Type 0 where
   pub controller-j : d .j .0 < 2 ^ 32
 
 -- the ends that the fields stand for, and the counts
-unfoldable pub loadedOf : console-end.End → List ℕ → controller-end.End → ℕ → ℕ → Loaded
-loadedOf e held f sent returned =
+unfoldable pub loadedOf : console-end.End → Bool → List ℕ → controller-end.End → ℕ → ℕ → Loaded
+loadedOf e ack held f sent returned =
     record {
       modes = record { console = record { mode = e .mode; up = e .up; held = held }; controller = record { mode = f .mode; up = f .up }; sent = sent; returned = returned };
       console = e .numbers;
       controller = f .numbers;
+      ack = ack;
     }
 
 abbrev pub benchOf : Loaded → Bench
 benchOf b =
     record {
-      console = consoleWith (b .console) (b .modes .console .mode) (b .modes .console .up) (b .modes .console .held);
+      console = consoleWith (b .console) (b .modes .console .mode) (b .modes .console .up) (b .ack) (b .modes .console .held);
       controller = controllerWith (b .controller) (b .modes .controller .mode) (b .modes .controller .up);
       sent = b .modes .sent;
       returned = b .modes .returned;
@@ -134,21 +165,21 @@ FoundLined found.Nothing = Unit {0}
 FoundLined (found.Line l) = Lined l
 
 -- a record that is not well formed is 1
-abbrev pub fieldsOutcome : Line → Fields → Loaded → List ℕ → List ℕ → rules.Outcome supply.Numbers (List ℕ)
+abbrev pub fieldsOutcome : Line → Fields → Loaded → List ℕ → List ℕ → Read (rules.Bench supply.Numbers (List ℕ)) (List ℕ)
 fieldsOutcome l r b out back =
-    if r .fits then rules.step numbering isMessage (loadedMeans b out back) (actionOf l (actionWith l r))
-    else record { report = ends.refused 1; after = loadedMeans b out back }
+    if r .fits then read-step numbering isMessage (loadedReads b out back) (actionOf l (actionWith l r))
+    else record { report = ends.refused 1; after = loadedReads b out back }
 
 -- and so is one whose letter is no action's
-abbrev pub recordOutcome : Found → List ℕ → Loaded → List ℕ → List ℕ → rules.Outcome supply.Numbers (List ℕ)
-recordOutcome found.Nothing s b out back = record { report = ends.refused 1; after = loadedMeans b out back }
+abbrev pub recordOutcome : Found → List ℕ → Loaded → List ℕ → List ℕ → Read (rules.Bench supply.Numbers (List ℕ)) (List ℕ)
+recordOutcome found.Nothing s b out back = record { report = ends.refused 1; after = loadedReads b out back }
 recordOutcome (found.Line l) s b out back = fieldsOutcome l (listRecord (usesOf l) s) b out back
 
-unfoldable pub lineStep : Loaded → List ℕ → List ℕ → Line → List ℕ → RulesOutcome supply.Numbers
-lineStep b out back l s = shownOf (recordOutcome (found.Line l) s b out back)
+unfoldable pub lineStep : Loaded → List ℕ → List ℕ → Line → List ℕ → ReadOutcome
+lineStep b out back l s = readOf (recordOutcome (found.Line l) s b out back)
 
-unfoldable pub recordStep : Loaded → List ℕ → List ℕ → List ℕ → RulesOutcome supply.Numbers
-recordStep b out back s = shownOf (recordOutcome (foundOf (letter (getD s 0 0))) s b out back)
+unfoldable pub recordStep : Loaded → List ℕ → List ℕ → List ℕ → ReadOutcome
+recordStep b out back s = readOf (recordOutcome (foundOf (letter (getD s 0 0))) s b out back)
 
 -- a record played: its line, and what is known afterwards
 pub record Played (b : Loaded) (out back : List ℕ) (s : List ℕ) (number : ℕ) (after : Loaded) (line out′ back′ : List ℕ) : Type 0 where
@@ -174,4 +205,5 @@ started =
           };
       console = numbersFresh 0;
       controller = numbersFresh 0;
+      ack = false;
     }

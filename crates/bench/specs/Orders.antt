@@ -1,17 +1,21 @@
--- Demand 3 of the bench's own step: what its outcomes show, action by action, is a right log without the puts' numbers. Assumes nothing.
+-- Demand 3 of the bench's own step, as request 2 words it: what its outcomes show, action by action, is a right log without the puts' numbers. Assumes
+-- nothing.
 use Prim.Native.Nat.{ℕ}
 use mathlib.Core.Path.{_≡_}
+use mathlib.Core.Bool.{true, false}
 use mathlib.Core.Option.{Option, none, some, Option·map}
 use mathlib.Core.List.{List, [], _∷_, map}
 use Rattle.wire.specs.declared.I.{I}
 use Rattle.wire.specs.declared.J.{J}
 use Rattle.ground.specs.Cell.{isMessage}
-use Rattle.rules.specs.Supply.{numbering, Numbers, fresh-numbers}
+use Rattle.rules.specs.Supply.{numbering, fresh-numbers}
 use Rattle.rules.specs.Letters.{Letter, letter}
 use Rattle.rules.specs.Bench as rules
-use Rattle.rules.specs.Bench.{fresh}
-use Rattle.rules.specs.Log.{Labelled, Log, Event, Delivered, AnsweredOK, AnsweredLost, Right}
-use Rattle.rules.specs.Demand3.{acted, write, labelled-step, row-of, written, unnumbered}
+use Rattle.rules.specs.Reading.{fresh-reading}
+use Rattle.rules.specs.Log.{Event, Delivered, AnsweredOK, AnsweredLost, Right}
+use Rattle.rules.specs.Demand3.{acted, written, log, unnumbered}
+use Rattle.rules.specs.ReadLog.{Right-read}
+use Rattle.rules.specs.ReadDemand3.{read-rows, firsts, spares-lost}
 use Rattle.ends.specs.declared.Report.{Report}
 use Rattle.ends.specs.declared.Report.the-variants as report
 use Rattle.bench.specs.Promise.{benchStep, benchFresh}
@@ -29,7 +33,7 @@ outcomes b out back (a ∷ l) =
 unfoldable pub freshOutcomes : J → I → List ℕ → List ℕ → List Action → List Outcome
 freshOutcomes j i out back l = let f = benchFresh j i out back in outcomes (f .outcome .bench) (f .out) (f .back) l
 
--- the row that an outcome shows: a put taken, a delivery with its cells, an answer, C V X Y; nothing of a refusal
+-- the row that an outcome shows: a put taken, a delivery with its cells, what A tells, C V X Y; nothing of a refusal
 abbrev pub actedBy : Option Letter → List ℕ → Option (Event (List ℕ))
 actedBy none m = none
 actedBy (some l) m = acted 0 l m
@@ -51,27 +55,40 @@ allShown (a ∷ l) (o ∷ os) = shownBy a (o .report) (o .message) ∷ allShown 
 abbrev pub asRules : Letter → Action → rules.Action (List ℕ)
 asRules l a = rules.action l (a .place) (a .copies) (a .message)
 
-abbrev pub Labels : Type 0
-Labels = rules.Bench Numbers (Labelled (List ℕ))
-
 abbrev pub Rows : Type 0
 Rows = List (Option (Event (List ℕ)))
 
--- the row of one action, and the rows after it; a letter that is no action leaves none
-abbrev pub rowsFrom : Option Letter → Action → Log (List ℕ) → Labels → (Log (List ℕ) → Labels → Rows) → Rows
-rowsFrom none a past b more = none ∷ more past b
-rowsFrom (some x) a past b more =
-    row-of numbering isMessage past b (asRules x a)
-    ∷ more (write (row-of numbering isMessage past b (asRules x a)) past) (labelled-step numbering isMessage past b (asRules x a) .after)
+-- the actions whose letter is one
+abbrev pub withLetter : Option Letter → Action → List (rules.Action (List ℕ)) → List (rules.Action (List ℕ))
+withLetter none a l = l
+withLetter (some x) a l = asRules x a ∷ l
 
-unfoldable pub rowsOf : Log (List ℕ) → Labels → List Action → Rows
-rowsOf past b [] = []
-rowsOf past b (a ∷ l) = rowsFrom (letter (a .letter)) a past b (λ p c. rowsOf p c l)
+unfoldable pub lettered : List Action → List (rules.Action (List ℕ))
+lettered [] = []
+lettered (a ∷ l) = withLetter (letter (a .letter)) a (lettered l)
 
--- that log is right, and without the numbers its rows are what the step shows
+-- their rows, and none for an action whose letter is none
+abbrev pub spreadBy : Option Letter → Rows → (Rows → Rows) → Rows
+spreadBy none os more = none ∷ more os
+spreadBy (some x) [] more = none ∷ more []
+spreadBy (some x) (o ∷ os) more = o ∷ more os
+
+unfoldable pub spread : List Action → Rows → Rows
+spread [] os = []
+spread (a ∷ l) os = spreadBy (letter (a .letter)) os (λ rest. spread l rest)
+
+unfoldable pub rowsOf : J → I → List Action → Rows
+rowsOf j i l = spread l (read-rows numbering isMessage [] (fresh-reading (fresh-numbers (j .0)) (fresh-numbers (i .0))) (lettered l))
+
 pub record OrdersRight (j : J) (i : I) (out back : List ℕ) (l : List Action) : Type 0 where
-  pub right : Right (written (rowsOf [] (fresh (fresh-numbers (j .0)) (fresh-numbers (i .0))) l) [])
-  pub own : map (Option·map unnumbered) (rowsOf [] (fresh (fresh-numbers (j .0)) (fresh-numbers (i .0))) l) ≡ allShown l (freshOutcomes j i out back l)
+  -- that log is right as request 2 words it
+  pub right : Right-read (written (rowsOf j i l) [])
+  -- without the numbers its rows are what the step shows, the first answer after each put
+  pub own : map (Option·map unnumbered) (rowsOf j i l) ≡ firsts false (allShown l (freshOutcomes j i out back l))
+  -- an A that is no put's answer tells lost
+  pub spare : spares-lost false (allShown l (freshOutcomes j i out back l)) ≡ true
+  -- the history, in which S answers as packets arrive, is right as document 01 words it
+  pub history : Right (log numbering isMessage (fresh-numbers (j .0)) (fresh-numbers (i .0)) (lettered l))
 
 -- ## Where a list of actions leaves the bench and its tables
 

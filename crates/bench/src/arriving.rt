@@ -88,6 +88,7 @@ pub(crate) fn for_the_console(ask: ConsoleAsk, place: usize, back: &[u8], return
         ConsoleAsk::Take => at_back(back, returned, place),
         ConsoleAsk::GoDown => nothing(),
         ConsoleAsk::ComeBack => nothing(),
+        ConsoleAsk::TellAck => nothing(),
     }
 }
 

@@ -1,5 +1,5 @@
-// The bench: two ends, two channels, thirteen actions. A step reads its ends into modes once (here), decides by them and moves packets (modes), with
-// the packet at the place (arriving) and the numbers of both ends (loaded).
+// The bench: two ends, two channels, fourteen actions. A step reads its ends into modes once (here), decides by them and moves packets (modes), with
+// the packet at the place (arriving), the numbers of both ends and the ack (loaded).
 mod arriving;
 mod cells;
 mod loaded;
@@ -88,12 +88,13 @@ fn tables_ok(out: &[u8], sent: usize, back: &[u8], returned: usize) -> bool
 
 fn load(
     e: ends_console::End,
+    ack: bool,
     held: [u8; 16],
     f: ends_controller::End,
     sent: usize,
     returned: usize,
 ) -> Loaded
-    ensures { λ r. ⌜ r ≡ loadedOf e held f sent returned ⌝ }
+    ensures { λ r. ⌜ r ≡ loadedOf e ack held f sent returned ⌝ }
 {
     let console = e.mode;
     let controller = f.mode;
@@ -115,6 +116,7 @@ fn load(
         },
         console: first,
         controller: second,
+        ack,
     }
 }
 
@@ -146,7 +148,7 @@ fn outcome_of(t: Stepped) -> Outcome
         report,
         message,
         bench: Bench {
-            console: ends_console::fields::console_of(first, held),
+            console: ends_console::fields::console_of(first, after.ack, held),
             controller: ends_controller::fields::controller_of(second),
             sent: modes.sent,
             returned: modes.returned,
@@ -178,7 +180,7 @@ fn ends_read(
     channels::bytes_fit(out);
     channels::bytes_fit(back);
     let held = console.message;
-    let loaded = load(e, held, f, b.sent, b.returned);
+    let loaded = load(e, console.ack, held, f, b.sent, b.returned);
     let stepped = step_known(loaded, line, a, out, back);
     outcome_of(stepped)
 }
@@ -217,7 +219,7 @@ fn lined_step(b: Bench, line: Line, a: Action, out: &mut [u8], back: &mut [u8]) 
     }
 }
 
-// One of the thirteen actions. `out` and `back` are the tables of the packets to the controller and to the console.
+// One of the fourteen actions. `out` and `back` are the tables of the packets to the controller and to the console.
 pub fn step(b: Bench, a: Action, out: &mut [u8], back: &mut [u8]) -> Outcome
     ensures { λ r. ⌜ record { outcome = r; out = now (out .exit); back = now (back .exit) } ≡ benchStep b a (now (out .entry)) (now (back .entry)) ⌝ }
 {

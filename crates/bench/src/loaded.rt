@@ -1,4 +1,4 @@
-// A bench by its modes, with the numbers of both ends: the thin layer that offers and moves them.
+// A bench by its modes, with the numbers of both ends and the console's ack: the thin layer that offers and moves the numbers, and keeps the ack.
 use crate::Action;
 use crate::arriving::for_the_console;
 use crate::arriving::for_the_controller;
@@ -10,6 +10,9 @@ use crate::modes::controller_asked;
 use crate::modes::loses;
 use ends::ForController;
 use ends::Report;
+use ends_console::ack::Shown;
+use ends_console::ack::ack_use;
+use ends_console::ack::shows;
 use ends_controller::acts::is_unknown;
 use letters::Asks;
 use letters::ConsoleAsk;
@@ -24,12 +27,13 @@ ghost use lib.Dec.{ltb};
 ghost use Rattle.ground.specs.Cell.{spaces};
 ghost use Rattle.letters.specs.Lines.{Lined};
 ghost use Rattle.bench.specs.ByModes.{Few};
-ghost use Rattle.bench.specs.Loaded.{Well, offeredBy, movedBy, steppedAs, loadedStep};
+ghost use Rattle.bench.specs.Loaded.{Well, offeredBy, movedBy, asItIs, steppedAs, loadedStep};
 
 pub struct Loaded {
     pub modes: Modes,
     pub console: Numbers,
     pub controller: Numbers,
+    pub ack: bool,
 }
 
 pub struct Stepped {
@@ -58,10 +62,11 @@ fn offers(console: Numbers, controller: Numbers, came: ForController) -> Offered
     }
 }
 
-fn moved(console: Numbers, controller: Numbers, told: Told) -> Stepped
-    ensures { λ r. ⌜ r ≡ movedBy console controller told ⌝ }
+// `shown` is what is shown of what was told, and the ack then.
+fn moved(console: Numbers, controller: Numbers, shown: Shown, told: Told) -> Stepped
+    ensures { λ r. ⌜ r ≡ movedBy console controller shown told ⌝ }
 {
-    let report = told.report;
+    let report = shown.report;
     let message = told.message;
     let modes = told.after;
     let first = told.console;
@@ -73,8 +78,17 @@ fn moved(console: Numbers, controller: Numbers, told: Told) -> Stepped
             modes,
             console: numbers::after(console, first),
             controller: numbers::after(controller, second),
+            ack: shown.ack,
         },
     }
+}
+
+// No answer arrives: what is told is shown.
+fn as_it_is(ack: bool, told: Told) -> Shown
+    ensures { λ r. ⌜ r ≡ asItIs ack told ⌝ }
+{
+    let report = told.report;
+    Shown { report, ack }
 }
 
 fn too_many(uses: bool, copies: usize) -> bool
@@ -99,12 +113,21 @@ fn console_step(
 {
     let modes = b.modes;
     let came = for_the_console(ask, a.place, back, modes.returned);
-    let console = b.console;
-    let controller = b.controller;
+    let first = b.console;
+    let second = b.controller;
+    let ack = b.ack;
     let packet = came.controller;
-    let next = offers(console, controller, packet);
+    let next = offers(first, second, packet);
     let told = console_asked(modes, next, came, ask, line, a, out, back);
-    moved(console, controller, told)
+    let report = told.report;
+    // each report has its own way to the end: with one for all the compiler lays the report out in memory
+    match report {
+        Report::Refused(_) => moved(first, second, as_it_is(ack, told), told),
+        Report::Nothing => moved(first, second, shows(ack_use(ask), ack, report), told),
+        Report::Delivered => moved(first, second, shows(ack_use(ask), ack, report), told),
+        Report::Ok => moved(first, second, shows(ack_use(ask), ack, report), told),
+        Report::Lost => moved(first, second, shows(ack_use(ask), ack, report), told),
+    }
 }
 
 // What the controller is asked.
@@ -128,7 +151,8 @@ fn controller_step(
     let packet = came.controller;
     let next = offers(console, controller, packet);
     let told = controller_asked(modes, next, came, ask, line, a, out, back);
-    moved(console, controller, told)
+    let shown = as_it_is(b.ack, told);
+    moved(console, controller, shown, told)
 }
 
 // A packet lost asks no end, and moves no numbers; they are offered and moved as in the other arms, so that one proof serves.
@@ -143,7 +167,8 @@ fn losing_step(b: Loaded, line: Line, a: Action, out: &mut [u8], back: &mut [u8]
     let controller = b.controller;
     let next = offers(console, controller, ForController::Nothing);
     let told = loses(modes, next, line, a, out, back);
-    moved(console, controller, told)
+    let shown = as_it_is(b.ack, told);
+    moved(console, controller, shown, told)
 }
 
 // The step of a bench that is known to be well formed, of a letter's line of the table. Each arm has its own way to the end, so that what the others

@@ -138,6 +138,7 @@ fn starts() -> Loaded
         },
         console: numbers::fresh(0),
         controller: numbers::fresh(0),
+        ack: false,
     }
 }
 

@@ -1,7 +1,6 @@
 -- A refusal of the bench's step leaves the state, both tables and the bytes lent for a delivery, whatever bytes are handed in.
 use Prim.Native.Nat.{ℕ, _^_, _<_}
 use mathlib.Core.Path.{_≡_, refl, ap, _∙_}
-use mathlib.Core.Bool.{true, _&&_}
 use mathlib.Core.List.{List}
 use native.Mathlib.Omega.{arith}
 use borrow.Author.Tests.{eqb-true}
@@ -26,6 +25,7 @@ use Rattle.boundary.specs.Controller as controller
 use Rattle.rules.specs.Supply.{fresh-numbers}
 use Rattle.numbers.specs.Numbers.{numbersMeans}
 use Rattle.numbers.proofs.Range.{Fit, sound-fits}
+use Rattle.boundary.proofs.ConsoleTrips.{state-long}
 use Rattle.boundary.proofs.NumbersTrips.{numbers-fit}
 use Rattle.boundary.specs.Benches.{partsAt, benchAt, stepResult, stepped, stepPut}
 
@@ -43,17 +43,10 @@ pub record ControllerTyped (c : Controller) : Type 0 where
 none-fit : Fit (fresh-numbers 0)
 none-fit = sound-fits (fresh-numbers 0) refl
 
-state-long : (s : List ℕ) → console.isState s ≡ true → length s ≡ 36
-unfolding console.isState
-state-long s t =
-    let x = eqb (length s) 36 in
-    let y = leb (getD s 18 0) 1 in
-    eqb-true (length s) 36 (and-left x y (and-left (x && y) (leb (getD s 19 0) 1) t))
-
 -- whatever the bytes
 pub console-long : (s : List ℕ) → length (console.consoleAt s .message) ≡ 16
 unfolding console.consoleAt console.fieldsAt if_then_else_
-console-long s = by-test (console.isState s) (λ t. rw t (length-drop 20 s ∙ rw (state-long s t))) (λ f. rw f)
+console-long s = by-test (console.isState s) (λ t. rw t (length-drop 21 s ∙ rw (state-long s t))) (λ f. rw f)
 
 pub console-typed : (s : List ℕ) → Bytes s → ConsoleTyped (console.consoleAt s)
 unfolding console.consoleAt console.fieldsAt if_then_else_
@@ -61,7 +54,7 @@ console-typed s b =
     by-test (console.isState s)
     (λ t.
     let l = state-long s t in
-    rw t (record { message = length-drop 20 s ∙ rw l; numbers = numbers-fit s b (omega (arith, l)); last = field-below s 14 4 b (omega (arith, l)) }))
+    rw t (record { message = length-drop 21 s ∙ rw l; numbers = numbers-fit s b (omega (arith, l)); last = field-below s 14 4 b (omega (arith, l)) }))
     (λ f. rw f (record { message = refl; numbers = none-fit; last = omega arith }))
 
 pub controller-typed : (s : List ℕ) → Bytes s → ControllerTyped (controller.controllerAt s)
@@ -79,14 +72,14 @@ TypedBench b = Typed (b .console) (b .controller)
 parts-typed : (s : List ℕ) → Bytes s → TypedBench (partsAt s)
 unfolding partsAt
 parts-typed s b =
-    let c = console-typed (field s 0 36) (bytes-take 36 s b) in
-    let d = controller-typed (field s 36 23) (bytes-take 23 (drop 36 s) (bytes-drop 36 s b)) in
+    let c = console-typed (field s 0 37) (bytes-take 37 s b) in
+    let d = controller-typed (field s 37 23) (bytes-take 23 (drop 37 s) (bytes-drop 37 s b)) in
     record { message = c .message; console-last = c .last; controller-j = d .j }
 
 bench-typed : (s : List ℕ) → Bytes s → TypedBench (benchAt s)
 unfolding benchAt if_then_else_
 bench-typed s b =
-    by-test (eqb (length s) 61) (λ t. rw t (parts-typed s b))
+    by-test (eqb (length s) 62) (λ t. rw t (parts-typed s b))
     (λ f. rw f (record { message = refl; console-last = omega arith; controller-j = omega arith }))
 
 -- ## A refusal

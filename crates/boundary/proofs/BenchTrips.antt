@@ -23,6 +23,7 @@ use Rattle.wire.proofs.Frames.{split-field}
 use Rattle.rules.specs.Supply.{numbering}
 use Rattle.rules.specs.Letters.{Letter, letter}
 use Rattle.rules.specs.Bench as rules
+use Rattle.rules.specs.Reading.{read-step}
 use Rattle.rules.specs.WellFormed.{Well-formed}
 use Rattle.rules.proofs.Supply.{numbering-lawful}
 use Rattle.rules.proofs.WellFormed.{step-well-formed}
@@ -51,7 +52,7 @@ module _ (b : Bench) (c : console.Typed (b .console)) (d : controller.Typed (b .
   abbrev y : List ℕ
   y = controllerBytes (b .controller)
 
-  x-long : length x ≡ 36
+  x-long : length x ≡ 37
   unfolding consoleBytes bytesOf
   x-long = rw (c .message)
 
@@ -59,28 +60,28 @@ module _ (b : Bench) (c : console.Typed (b .console)) (d : controller.Typed (b .
   unfolding controllerBytes bytesOf
   y-long = refl
 
-  both-long : length (x ++ y) ≡ 59
+  both-long : length (x ++ y) ≡ 60
   both-long = length-append x y ∙ rw (x-long, y-long)
 
-  -- the two counts stand after 59 bytes
+  -- the two counts stand after 60 bytes
   flat : (p q : ℕ) → x ++ (y ++ (p ∷ q ∷ [])) ≡ (x ++ y) ++ p ∷ q ∷ []
   flat p q = sym (append-assoc x y (p ∷ q ∷ []))
 
-  long : (p q : ℕ) → length (x ++ (y ++ (p ∷ q ∷ []))) ≡ 61
+  long : (p q : ℕ) → length (x ++ (y ++ (p ∷ q ∷ []))) ≡ 62
   long p q = length-append x (y ++ (p ∷ q ∷ [])) ∙ rw (length-append y (p ∷ q ∷ []), x-long, y-long)
 
-  console-part : (p q : ℕ) → field (x ++ (y ++ (p ∷ q ∷ []))) 0 36 ≡ x
-  console-part p q = take-at x (y ++ (p ∷ q ∷ [])) 36 x-long
+  console-part : (p q : ℕ) → field (x ++ (y ++ (p ∷ q ∷ []))) 0 37 ≡ x
+  console-part p q = take-at x (y ++ (p ∷ q ∷ [])) 37 x-long
 
-  controller-part : (p q : ℕ) → field (x ++ (y ++ (p ∷ q ∷ []))) 36 23 ≡ y
-  controller-part p q = rw (drop-at x (y ++ (p ∷ q ∷ [])) 36 x-long) (take-at y (p ∷ q ∷ []) 23 y-long)
+  controller-part : (p q : ℕ) → field (x ++ (y ++ (p ∷ q ∷ []))) 37 23 ≡ y
+  controller-part p q = rw (drop-at x (y ++ (p ∷ q ∷ [])) 37 x-long) (take-at y (p ∷ q ∷ []) 23 y-long)
 
-  first-count : (p q : ℕ) → getD (x ++ (y ++ (p ∷ q ∷ []))) 59 0 ≡ p
-  first-count p q = rw (flat p q) (getD-at (x ++ y) p (q ∷ []) 0 59 both-long)
+  first-count : (p q : ℕ) → getD (x ++ (y ++ (p ∷ q ∷ []))) 60 0 ≡ p
+  first-count p q = rw (flat p q) (getD-at (x ++ y) p (q ∷ []) 0 60 both-long)
 
-  second-count : (p q : ℕ) → getD (x ++ (y ++ (p ∷ q ∷ []))) 60 0 ≡ q
+  second-count : (p q : ℕ) → getD (x ++ (y ++ (p ∷ q ∷ []))) 61 0 ≡ q
   second-count p q =
-      rw (flat p q, ← append-snoc (x ++ y) p (q ∷ [])) (getD-at ((x ++ y) ++ (p ∷ [])) q [] 0 60 (length-append (x ++ y) (p ∷ []) ∙ rw both-long))
+      rw (flat p q, ← append-snoc (x ++ y) p (q ∷ [])) (getD-at ((x ++ y) ++ (p ∷ [])) q [] 0 61 (length-append (x ++ y) (p ∷ []) ∙ rw both-long))
 
   small : (n : ℕ) → n ≤ 64 → n % 256 ≡ n
   small n h = omega (arith, h)
@@ -90,7 +91,7 @@ module _ (b : Bench) (c : console.Typed (b .console)) (d : controller.Typed (b .
   bench-read-back =
       let p = b .sent % 256 in
       let q = b .returned % 256 in
-      rw (eq-eqb (length (x ++ (y ++ (p ∷ q ∷ [])))) 61 (long p q), console-part p q, controller-part p q, first-count p q, second-count p q, console.console-read-back (b .console) c, controller.controller-read-back (b .controller) d, small (b .sent) few, small (b .returned) back)
+      rw (eq-eqb (length (x ++ (y ++ (p ∷ q ∷ [])))) 62 (long p q), console-part p q, controller-part p q, first-count p q, second-count p q, console.console-read-back (b .console) c, controller.controller-read-back (b .controller) d, small (b .sent) few, small (b .returned) back)
 
 -- ## What is accepted is written back
 
@@ -99,19 +100,19 @@ none-ill : (out back : List ℕ) → benchOk noBench out back ≡ false
 unfolding benchOk consoleOk filled if_then_else_
 none-ill out back = refl
 
-well-formed-long : (s out back : List ℕ) → benchOk (benchAt s) out back ≡ true → length s ≡ 61
+well-formed-long : (s out back : List ℕ) → benchOk (benchAt s) out back ≡ true → length s ≡ 62
 unfolding benchAt if_then_else_
 well-formed-long s out back e =
-    by-test (eqb (length s) 61) (λ t. eqb-true (length s) 61 t) (λ f. absurd (false≢true (sym (none-ill out back) ∙ rw f at e)))
+    by-test (eqb (length s) 62) (λ t. eqb-true (length s) 62 t) (λ f. absurd (false≢true (sym (none-ill out back) ∙ rw f at e)))
 
-module _ (s out back : List ℕ) (bytes : Bytes s) (l : length s ≡ 61) where
-  two-left : drop 59 s ≡ getD s 59 0 ∷ getD s 60 0 ∷ []
+module _ (s out back : List ℕ) (bytes : Bytes s) (l : length s ≡ 62) where
+  two-left : drop 60 s ≡ getD s 60 0 ∷ getD s 61 0 ∷ []
   two-left =
-      drop-cons s 59 0 (omega (arith, l))
-      ∙ ap (λ (r : List ℕ). getD s 59 0 ∷ r) (drop-cons s 60 0 (omega (arith, l)) ∙ ap (λ (r : List ℕ). getD s 60 0 ∷ r) (drop-of-length-le s {i = 61} (omega (arith, l))))
+      drop-cons s 60 0 (omega (arith, l))
+      ∙ ap (λ (r : List ℕ). getD s 60 0 ∷ r) (drop-cons s 61 0 (omega (arith, l)) ∙ ap (λ (r : List ℕ). getD s 61 0 ∷ r) (drop-of-length-le s {i = 62} (omega (arith, l))))
 
-  cut : s ≡ field s 0 36 ++ (field s 36 23 ++ (getD s 59 0 ∷ getD s 60 0 ∷ []))
-  cut = split-field s 0 36 ∙ ap (λ (r : List ℕ). field s 0 36 ++ r) (split-field s 36 23 ∙ ap (λ (r : List ℕ). field s 36 23 ++ r) two-left)
+  cut : s ≡ field s 0 37 ++ (field s 37 23 ++ (getD s 60 0 ∷ getD s 61 0 ∷ []))
+  cut = split-field s 0 37 ∙ ap (λ (r : List ℕ). field s 0 37 ++ r) (split-field s 37 23 ∙ ap (λ (r : List ℕ). field s 37 23 ++ r) two-left)
 
   same-count : (i : ℕ) → getD s i 0 % 256 ≡ getD s i 0
   same-count i = let h = bytes i in omega (arith, h)
@@ -119,19 +120,19 @@ module _ (s out back : List ℕ) (bytes : Bytes s) (l : length s ≡ 61) where
   same-parts : benchOk (partsAt s) out back ≡ true → benchBytes (partsAt s) ≡ s
   unfolding benchBytes partsAt benchOk
   same-parts e =
-      let c = consoleOk (consoleAt (field s 0 36)) in
-      let d = controllerOk (controllerAt (field s 36 23)) in
-      let t = tableOk ToController (getD s 59 0) out in
-      let u = tableOk ToConsole (getD s 60 0) back in
+      let c = consoleOk (consoleAt (field s 0 37)) in
+      let d = controllerOk (controllerAt (field s 37 23)) in
+      let t = tableOk ToController (getD s 60 0) out in
+      let u = tableOk ToConsole (getD s 61 0) back in
       let f = and-left (c && d) t (and-left (c && d && t) u e) in
-      rw (console.console-write-back (field s 0 36) (bytes-take 36 s bytes) (and-left c d f), controller.controller-write-back (field s 36 23) (bytes-take 23 (drop 36 s) (bytes-drop 36 s bytes)) (and-right c d f), same-count 59, same-count 60)
+      rw (console.console-write-back (field s 0 37) (bytes-take 37 s bytes) (and-left c d f), controller.controller-write-back (field s 37 23) (bytes-take 23 (drop 37 s) (bytes-drop 37 s bytes)) (and-right c d f), same-count 60, same-count 61)
       (sym cut)
 
 pub bench-write-back : (s out back : List ℕ) → Bytes s → benchOk (benchAt s) out back ≡ true → benchBytes (benchAt s) ≡ s
 unfolding benchAt if_then_else_
 bench-write-back s out back bytes e =
     let l = well-formed-long s out back e in
-    rw (eq-eqb (length s) 61 l) (same-parts s out back bytes l (rw (eq-eqb (length s) 61 l) at e))
+    rw (eq-eqb (length s) 62 l) (same-parts s out back bytes l (rw (eq-eqb (length s) 62 l) at e))
 
 -- ## A step that is not refused met a state, and leaves the fields that the bench comes to
 
@@ -140,10 +141,10 @@ unfolding benchRefused if_then_else_
 none-refused none a out back = refl
 none-refused (some l) a out back = rw (none-ill out back)
 
-step-long : (s : List ℕ) (a : Action) (out back : List ℕ) → isRefusal (stepResult s a out back .outcome .report) ≡ false → length s ≡ 61
+step-long : (s : List ℕ) (a : Action) (out back : List ℕ) → isRefusal (stepResult s a out back .outcome .report) ≡ false → length s ≡ 62
 unfolding benchAt benchStep if_then_else_
 step-long s a out back e =
-    by-test (eqb (length s) 61) (λ t. eqb-true (length s) 61 t) (λ f. absurd (true≢false (sym (none-refused (letter (a .letter)) a out back) ∙ rw f at e)))
+    by-test (eqb (length s) 62) (λ t. eqb-true (length s) 62 t) (λ f. absurd (true≢false (sym (none-refused (letter (a .letter)) a out back) ∙ rw f at e)))
 
 pub bench-step-leaves : (s : List ℕ) (a : Action) (out back d : List ℕ) → isRefusal (stepResult s a out back .outcome .report) ≡ false → stepPut s a out back d .state ≡ benchBytes (stepResult s a out back .outcome .bench)
 unfolding written if_then_else_
@@ -156,7 +157,7 @@ module _ (b : Bench) (out back : List ℕ) (typed : Typed (b .console) (b .contr
   means-well t = passes-well b out back t typed p q .well-formed
 
   counts-few : (o : Option Letter) (a : Action) → isRefusal (stepOf o b a out back .outcome .report) ≡ false → (stepOf o b a out back .outcome .bench .sent ≤ 64) × (stepOf o b a out back .outcome .bench .returned ≤ 64)
-  unfolding benchRefused benchTold benchBack if_then_else_
+  unfolding benchRefused benchTold benchBack read-step if_then_else_
   counts-few none a e = absurd (true≢false e)
   counts-few (some l) a e =
       by-test (benchOk b out back)

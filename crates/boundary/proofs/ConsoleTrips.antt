@@ -38,30 +38,36 @@ pub record Typed (c : Console) : Type 0 where
 module _ (c : Console) (t : Typed c) where
   is-state : isState (consoleBytes c) ≡ true
   unfolding isState consoleBytes bytesOf
-  is-state = rw (t .message, flag-small (c .held), flag-small (c .up))
+  is-state = rw (t .message, flag-small (c .held), flag-small (c .up), flag-small (c .ack))
 
   same-fields : fieldsAt (consoleBytes c) ≡ c
   unfolding fieldsAt consoleBytes bytesOf
-  same-fields = rw (value-bytesOf 4 (c .numbers .used) (t .numbers .last), value-bytesOf 4 (c .numbers .reserved) (t .numbers .reserved), value-bytesOf 2 (c .numbers .block) (t .numbers .block), value-bytesOf 4 (c .j .0) (t .j), value-bytesOf 4 (c .last .0) (t .last), flag-back (c .held), flag-back (c .up))
+  same-fields = rw (value-bytesOf 4 (c .numbers .used) (t .numbers .last), value-bytesOf 4 (c .numbers .reserved) (t .numbers .reserved), value-bytesOf 2 (c .numbers .block) (t .numbers .block), value-bytesOf 4 (c .j .0) (t .j), value-bytesOf 4 (c .last .0) (t .last), flag-back (c .held), flag-back (c .up), flag-back (c .ack))
 
   pub console-read-back : consoleAt (consoleBytes c) ≡ c
   unfolding consoleAt if_then_else_
   console-read-back = rw is-state same-fields
 
--- what 36 bytes with two flags are
+-- what 37 bytes with three flags are
 record State (s : List ℕ) : Type 0 where
-  pub long : length s ≡ 36
+  pub long : length s ≡ 37
   pub held : leb (getD s 18 0) 1 ≡ true
   pub up : leb (getD s 19 0) 1 ≡ true
+  pub ack : leb (getD s 20 0) 1 ≡ true
 
 state : (s : List ℕ) → isState s ≡ true → State s
 unfolding isState
 state s e =
-    let a = eqb (length s) 36 in
+    let a = eqb (length s) 37 in
     let b = leb (getD s 18 0) 1 in
     let d = leb (getD s 19 0) 1 in
-    let r = and-left (a && b) d e in
-    record { long = eqb-true (length s) 36 (and-left a b r); held = and-right a b r; up = and-right (a && b) d e }
+    let f = leb (getD s 20 0) 1 in
+    let q = and-left (a && b && d) f e in
+    let r = and-left (a && b) d q in
+    record { long = eqb-true (length s) 37 (and-left a b r); held = and-right a b r; up = and-right (a && b) d q; ack = and-right (a && b && d) f e }
+
+pub state-long : (s : List ℕ) → isState s ≡ true → length s ≡ 37
+state-long s e = state s e .long
 
 same-bytes : (s : List ℕ) → Bytes s → isState s ≡ true → consoleBytes (fieldsAt s) ≡ s
 unfolding consoleBytes fieldsAt
@@ -73,12 +79,13 @@ same-bytes s b e =
     let k = field s 14 4 in
     let x = getD s 18 0 in
     let y = getD s 19 0 in
-    let f : List ℕ = x ∷ y ∷ [] in
-    let m = drop 20 s in
+    let z = getD s 20 0 in
+    let f : List ℕ = x ∷ y ∷ z ∷ [] in
+    let m = drop 21 s in
     let flat : (u ++ (j ++ (k ++ f))) ++ m ≡ u ++ (j ++ (k ++ (f ++ m))) = append-assoc u (j ++ (k ++ f)) m ∙ ap (λ (r : List ℕ). u ++ r) (append-assoc j (k ++ f) m ∙ ap (λ (r : List ℕ). j ++ r) (append-assoc k f m)) in
-    let rest : drop 18 s ≡ f ++ m = drop-cons s 18 0 (omega (arith, l)) ∙ ap (λ (r : List ℕ). x ∷ r) (drop-cons s 19 0 (omega (arith, l))) in
+    let rest : drop 18 s ≡ f ++ m = drop-cons s 18 0 (omega (arith, l)) ∙ ap (λ (r : List ℕ). x ∷ r) (drop-cons s 19 0 (omega (arith, l)) ∙ ap (λ (r : List ℕ). y ∷ r) (drop-cons s 20 0 (omega (arith, l)))) in
     let after : drop 10 s ≡ j ++ (k ++ (f ++ m)) = split-field s 10 4 ∙ ap (λ (r : List ℕ). j ++ r) (split-field s 14 4 ∙ ap (λ (r : List ℕ). k ++ r) rest) in
-    rw (field-back s 10 4 b (omega (arith, l)), field-back s 14 4 b (omega (arith, l)), flag-same x (g .held), flag-same y (g .up)) (flat ∙ ap (λ (r : List ℕ). u ++ r) (sym after) ∙ numbers-rest s b (omega (arith, l)))
+    rw (field-back s 10 4 b (omega (arith, l)), field-back s 14 4 b (omega (arith, l)), flag-same x (g .held), flag-same y (g .up), flag-same z (g .ack)) (flat ∙ ap (λ (r : List ℕ). u ++ r) (sym after) ∙ numbers-rest s b (omega (arith, l)))
 
 -- bytes that are no state stand for a console that is not well formed
 well-formed-state : (s : List ℕ) → consoleOk (consoleAt s) ≡ true → isState s ≡ true
@@ -99,4 +106,4 @@ console-ok s l m packet reply e =
 pub console-step-leaves : (s : List ℕ) (l : ℕ) (m packet reply : List ℕ) → isRefusal (consoleAlone (consoleAt s) l m packet reply .outcome .report) ≡ false → consoleStep s l m packet reply .state ≡ consoleBytes (consoleAlone (consoleAt s) l m packet reply .outcome .console)
 unfolding written if_then_else_
 console-step-leaves s l m packet reply e =
-    rw (e, state s (well-formed-state s (console-ok s l m packet reply e)) .long)
+    rw (e, state-long s (well-formed-state s (console-ok s l m packet reply e)))

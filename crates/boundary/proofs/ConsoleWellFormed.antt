@@ -18,12 +18,14 @@ use Rattle.wire.specs.declared.Head.the-variants as head
 use Rattle.wire.specs.declared.ReadHead.{ReadHead}
 use Rattle.wire.specs.declared.ReadHead.the-variants as read-head
 use Rattle.rules.specs.Supply.{numbering, Numbers}
-use Rattle.rules.specs.Letters.{ConsoleAsk, to-put, to-send-needI, to-send-data}
+use Rattle.rules.specs.Letters.{ConsoleAsk, to-put, to-send-needI, to-send-data, to-tell-ack}
 use Rattle.rules.specs.Ends as rules
 use Rattle.rules.specs.Bears.{Console-bears}
 use Rattle.rules.specs.Lists.{Opt}
+use Rattle.rules.specs.Reading.{use-of, said, ack-after, reading, console-read-step}
 use Rattle.rules.specs.WellFormed.{Number, Given, Good, Console-handed-ok, Console-ok}
 use Rattle.rules.proofs.Ends.{console-refused}
+use Rattle.rules.proofs.Said.{refusal-through}
 use Rattle.rules.proofs.Supply.{numbering-lawful}
 use Rattle.rules.proofs.WellFormed.{console-acts-ok}
 use Rattle.ends_console.specs.Fields.{consoleOk}
@@ -53,9 +55,10 @@ module _ (c : Console) (m packet reply : List ℕ) where
   Numbered r = (n : ℕ) → r .outcome .report ≡ report.Refused n → Refusal n
 
   acts-number : (a : rules.ConsoleAct (List ℕ)) → Numbered (consoleActs c reply a)
-  unfolding consoleActs
+  unfolding consoleActs console-read-step
   acts-number a n e =
-      let r = refused-in-rules (rules.console-step numbering isMessage (consoleMeans c) a .report) n e in
+      let d = rules.console-step numbering isMessage (consoleMeans c) a .report in
+      let r = refusal-through (use-of a) (c .ack) d n (refused-in-rules (said (use-of a) (c .ack) d) n e) in
       rules-number (rules.console-rules numbering isMessage (consoleMeans c) a) n (console-refused numbering isMessage (consoleMeans c) a n .0 r)
 
   pub console-refusal-number : (l : ℕ) → Numbered (consoleAlone c l m packet reply)
@@ -85,35 +88,39 @@ handed-good m packet g to-send-data a e = subst (Console-handed-ok numbering) (s
 handed-good m packet g ConsoleAsk.to-take a e = subst (Console-handed-ok numbering) (sym (e .1 .1)) (subst (Opt ToConsoleOk) (e .1 .0) g)
 handed-good m packet g ConsoleAsk.to-go-down a e = subst (Console-handed-ok numbering) (sym e) tt
 handed-good m packet g ConsoleAsk.to-come-back a e = subst (Console-handed-ok numbering) (sym e) tt
+handed-good m packet g to-tell-ack a e = subst (Console-handed-ok numbering) (sym e) tt
 
 message-long : (m : List ℕ) → isMessage m ≡ true → length m ≡ 16
 unfolding isMessage
 message-long m h = eqb-true (length m) 16 (and-left (eqb (length m) 16) (cells m) h)
 
 -- numbers of the rules fit into their bytes
-fields-typed : (u : Numbers) (k : rules.ConsoleMode (List ℕ)) (up : Bool) → Fit u → Console-bears (Given numbering u) (Number numbering) (Good isMessage) k → Typed (consoleBack (record { numbers = u; mode = k; up = up }))
-fields-typed u rules.ConsoleMode.idle up h b = record { numbers = h; j = omega arith; last = omega arith; message = refl }
-fields-typed u (rules.in-needI j m) up h b = record { numbers = h; j = number-below j (b .0 .0); last = omega arith; message = message-long m (b .1) }
-fields-typed u (rules.in-send l m) up h b = record { numbers = h; j = omega arith; last = number-below l (b .0); message = message-long m (b .1) }
+fields-typed : (u : Numbers) (k : rules.ConsoleMode (List ℕ)) (up ack : Bool) → Fit u → Console-bears (Given numbering u) (Number numbering) (Good isMessage) k → Typed (consoleBack (reading (record { numbers = u; mode = k; up = up }) ack))
+fields-typed u rules.ConsoleMode.idle up ack h b = record { numbers = h; j = omega arith; last = omega arith; message = refl }
+fields-typed u (rules.in-needI j m) up ack h b = record { numbers = h; j = number-below j (b .0 .0); last = omega arith; message = message-long m (b .1) }
+fields-typed u (rules.in-send l m) up ack h b = record { numbers = h; j = omega arith; last = number-below l (b .0); message = message-long m (b .1) }
 
 abbrev pub ConsoleLeft : Console → Type 0
 ConsoleLeft c = (consoleOk c ≡ true) × Typed c
 
-pub fields-left : (e : rules.Console Numbers (List ℕ)) → Console-ok numbering isMessage e → ConsoleLeft (consoleBack e)
-fields-left e w =
-    (console-stands e w .0, fields-typed (e .numbers) (e .mode) (e .up) (sound-fits (e .numbers) (w .numbers)) (w .mode))
+-- any ack
+pub fields-left : (e : rules.Console Numbers (List ℕ)) (ack : Bool) → Console-ok numbering isMessage e → ConsoleLeft (consoleBack (reading e ack))
+fields-left e ack w =
+    (console-stands e ack w .0, fields-typed (e .numbers) (e .mode) (e .up) ack (sound-fits (e .numbers) (w .numbers)) (w .mode))
 
 module _ (c : Console) (typed : ConsoleTyped c) (m packet reply : List ℕ) (bytes : Bytes packet) where
   abbrev Leaves : ConsoleAlone → Type 0
   Leaves r = isRefusal (r .outcome .report) ≡ false → ConsoleLeft (r .outcome .console)
 
   acts-leave : (k : ConsoleAsk) (a : rules.ConsoleAct (List ℕ)) → ConsoleActOf m packet k a → consoleOk c ≡ true → Leaves (consoleActs c reply a)
-  unfolding consoleActs rules.console-step if_then_else_
+  unfolding consoleActs console-read-step said rules.console-step if_then_else_
   acts-leave x a came y e =
       let k = refusal (rules.console-rules numbering isMessage (consoleMeans c) a) in
       let given = handed-good m packet (head-good (packetRead packet .head) (packet-good packet bytes)) x a came in
       by-test (eqb k 0)
-      (λ z. rw z (fields-left _ (console-acts-ok numbering numbering-lawful isMessage (consoleMeans c) a (eqb-true k 0 z) (console-good c (typed .message) y (typed .last)) given .0)))
+      (λ z.
+      let after = ack-after (use-of a) (c .ack) (rules.console-acts numbering (consoleMeans c) a .report) in
+      rw z (fields-left _ after (console-acts-ok numbering numbering-lawful isMessage (consoleMeans c) a (eqb-true k 0 z) (console-good c (typed .message) y (typed .last)) given .0)))
       (λ z. absurd (true≢false (rw z at e)))
 
   pub console-left : (l : ℕ) → Leaves (consoleAlone c l m packet reply)

@@ -65,10 +65,10 @@ pub ruleset console-record-refusals = (console-record-2, console-record-n)
 pub ruleset console-records = (console-record-kept, console-record-put)
 
 -- a console after power loss, and a fresh one
-pub console-downed : (s r : List ℕ) {l : Start} {k : Numbers} {d : Console} {x : List ℕ} → l ≡ console.startAt r → length s ≡ 36 → l .refusal ≡ 0 → k ≡ numbersKept (l .number) (l .block) → d ≡ downedConsole k → x ≡ console.consoleBytes d → x ≡ started 36 s (console.startAt r) (console.downedBytes r)
-console-downed s r e h z k f g = started-0 36 s (console.startAt r) e (console.downedBytes r) h z (rw (← e, ← k, ← f) g)
+pub console-downed : (s r : List ℕ) {l : Start} {k : Numbers} {d : Console} {x : List ℕ} → l ≡ console.startAt r → length s ≡ 37 → l .refusal ≡ 0 → k ≡ numbersKept (l .number) (l .block) → d ≡ downedConsole k → x ≡ console.consoleBytes d → x ≡ started 37 s (console.startAt r) (console.downedBytes r)
+console-downed s r e h z k f g = started-0 37 s (console.startAt r) e (console.downedBytes r) h z (rw (← e, ← k, ← f) g)
 
-pub console-started : (s : List ℕ) (c : Console) {d : Console} {x : List ℕ} → d ≡ c → x ≡ written 36 s (console.consoleBytes d) → x ≡ written 36 s (console.consoleBytes c)
+pub console-started : (s : List ℕ) (c : Console) {d : Console} {x : List ℕ} → d ≡ c → x ≡ written 37 s (console.consoleBytes d) → x ≡ written 37 s (console.consoleBytes c)
 console-started s c e f = rw (← e) f
 
 -- the number record of a controller's state
@@ -111,7 +111,7 @@ pub controller-started : (s : List ℕ) (c : Controller) {d : Controller} {x : L
 controller-started s c e f = rw (← e) f
 
 -- the steps
-pub console-stepped : (s m packet reply : List ℕ) (l : ℕ) {c : Console} {o : ConsoleOutcome} {y z : List ℕ} {t : ℕ} {k : Bool} → c ≡ console.consoleAt s → record { outcome = o; reply = y } ≡ consoleAlone c l m packet reply → z ≡ (if isRefusal (o .report) then s else written 36 s (console.consoleBytes (o .console))) → k ≡ changed (c .numbers) (o .console .numbers) → t ≡ told (o .report) (o .sent) k → record { told = t; state = z; reply = y } ≡ console.consoleStep s l m packet reply
+pub console-stepped : (s m packet reply : List ℕ) (l : ℕ) {c : Console} {o : ConsoleOutcome} {y z : List ℕ} {t : ℕ} {k : Bool} → c ≡ console.consoleAt s → record { outcome = o; reply = y } ≡ consoleAlone c l m packet reply → z ≡ (if isRefusal (o .report) then s else written 37 s (console.consoleBytes (o .console))) → k ≡ changed (c .numbers) (o .console .numbers) → t ≡ told (o .report) (o .sent) k → record { told = t; state = z; reply = y } ≡ console.consoleStep s l m packet reply
 console-stepped s m packet reply l {o = o} {y = y} e f g k h =
     let q = f ∙ ap (λ (d : Console). consoleAlone d l m packet reply) e in
     let tells = h ∙ ap (told (o .report) (o .sent)) (k ∙ ap (λ (d : Console). changed (d .numbers) (o .console .numbers)) e) in

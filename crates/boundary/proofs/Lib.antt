@@ -1,3 +1,4 @@
+pub mod Answers
 pub mod BenchEntries
 pub mod BenchRefusals
 pub mod BenchTrips

@@ -22,10 +22,10 @@ pub numbers-are : (s : List ℕ) {u r b : ℕ} → 10 ≤ length s → u ≡ val
 numbers-are s l e f g = rw (e, f, g, field-elements 2 s 8 (omega (arith, l)))
 
 -- the message, copied from the part that is lent
-pub message-copied : (s d : List ℕ) {x : List ℕ} → length s ≡ 36 → length d ≡ 16 → x ≡ take (length (take (length s - 20) (drop 20 s))) (take (length s - 20) (drop 20 s)) ++ drop (length (take (length s - 20) (drop 20 s))) d → x ≡ drop 20 s
-message-copied s d l m e = copied (drop 20 s) d (rw (← rest-lent s 20) e) (m ∙ rw (length-drop 20 s, l))
+pub message-copied : (s d : List ℕ) {x : List ℕ} → length s ≡ 37 → length d ≡ 16 → x ≡ take (length (take (length s - 21) (drop 21 s))) (take (length s - 21) (drop 21 s)) ++ drop (length (take (length s - 21) (drop 21 s))) d → x ≡ drop 21 s
+message-copied s d l m e = copied (drop 21 s) d (rw (← rest-lent s 21) e) (m ∙ rw (length-drop 21 s, l))
 
-pub console-fields : (s : List ℕ) {n : Numbers} {j l : ℕ} {m : List ℕ} → n ≡ numbersAt s → j ≡ value (field s 10 4) → l ≡ value (field s 14 4) → m ≡ drop 20 s → _≡_ {A = Console} (record { numbers = n; held = eqb (getD s 18 0) 1; message = m; j = record { 0 = j }; last = record { 0 = l }; up = eqb (getD s 19 0) 1 }) (console.fieldsAt s)
+pub console-fields : (s : List ℕ) {n : Numbers} {j l : ℕ} {m : List ℕ} → n ≡ numbersAt s → j ≡ value (field s 10 4) → l ≡ value (field s 14 4) → m ≡ drop 21 s → _≡_ {A = Console} (record { numbers = n; held = eqb (getD s 18 0) 1; message = m; j = record { 0 = j }; last = record { 0 = l }; up = eqb (getD s 19 0) 1; ack = eqb (getD s 20 0) 1 }) (console.fieldsAt s)
 unfolding console.fieldsAt
 console-fields s e f g h = rw (e, f, g, h)
 
@@ -35,23 +35,27 @@ controller-fields s e f g h = rw (e, f, g, h)
 
 -- bytes that are no state, by their length or a flag, and bytes that are one
 module _ (s : List ℕ) {x : Console} where
-  pub console-short : (length s ≡ 36 → ⊥) → x ≡ console.noConsole → x ≡ console.consoleAt s
+  pub console-short : (length s ≡ 37 → ⊥) → x ≡ console.noConsole → x ≡ console.consoleAt s
   unfolding console.consoleAt console.isState if_then_else_
-  console-short h e = rw (ne-eqb (length s) 36 h) e
+  console-short h e = rw (ne-eqb (length s) 37 h) e
 
-  pub console-held : length s ≡ 36 → 1 < getD s 18 0 → x ≡ console.noConsole → x ≡ console.consoleAt s
+  pub console-held : length s ≡ 37 → 1 < getD s 18 0 → x ≡ console.noConsole → x ≡ console.consoleAt s
   unfolding console.consoleAt console.isState if_then_else_
   console-held l h e = rw (l, lt-leb (getD s 18 0) 1 h) e
 
-  pub console-up : length s ≡ 36 → getD s 18 0 ≤ 1 → 1 < getD s 19 0 → x ≡ console.noConsole → x ≡ console.consoleAt s
+  pub console-up : length s ≡ 37 → getD s 18 0 ≤ 1 → 1 < getD s 19 0 → x ≡ console.noConsole → x ≡ console.consoleAt s
   unfolding console.consoleAt console.isState if_then_else_
   console-up l k h e = rw (l, le-leb (getD s 18 0) 1 k, lt-leb (getD s 19 0) 1 h) e
 
-  pub console-good : length s ≡ 36 → getD s 18 0 ≤ 1 → getD s 19 0 ≤ 1 → x ≡ console.fieldsAt s → x ≡ console.consoleAt s
+  pub console-ack : length s ≡ 37 → getD s 18 0 ≤ 1 → getD s 19 0 ≤ 1 → 1 < getD s 20 0 → x ≡ console.noConsole → x ≡ console.consoleAt s
   unfolding console.consoleAt console.isState if_then_else_
-  console-good l k h e = rw (l, le-leb (getD s 18 0) 1 k, le-leb (getD s 19 0) 1 h) e
+  console-ack l k u h e = rw (l, le-leb (getD s 18 0) 1 k, le-leb (getD s 19 0) 1 u, lt-leb (getD s 20 0) 1 h) e
 
-pub ruleset console-reads = (console-short, console-held, console-up, console-good)
+  pub console-good : length s ≡ 37 → getD s 18 0 ≤ 1 → getD s 19 0 ≤ 1 → getD s 20 0 ≤ 1 → x ≡ console.fieldsAt s → x ≡ console.consoleAt s
+  unfolding console.consoleAt console.isState if_then_else_
+  console-good l k u h e = rw (l, le-leb (getD s 18 0) 1 k, le-leb (getD s 19 0) 1 u, le-leb (getD s 20 0) 1 h) e
+
+pub ruleset console-reads = (console-short, console-held, console-up, console-ack, console-good)
 
 module _ (s : List ℕ) {x : Controller} where
   pub controller-short : (length s ≡ 23 → ⊥) → x ≡ controller.noController → x ≡ controller.controllerAt s

@@ -21,7 +21,9 @@ use Rattle.wire.specs.declared.ReadHead.the-variants.{Refused, Is}
 use Rattle.rules.specs.Supply.{numbering}
 use Rattle.rules.specs.Letters.{Letter, letter}
 use Rattle.rules.specs.Bench as rules
+use Rattle.rules.specs.Reading.{use-by, said, read-step}
 use Rattle.rules.proofs.Bench.{step-refused}
+use Rattle.rules.proofs.Said.{refusal-through}
 use Rattle.ends.specs.AsRules.{numberIn}
 use Rattle.ends.proofs.Reports.{refused-in-rules}
 use Rattle.ends.specs.declared.Report.the-variants as report
@@ -96,13 +98,15 @@ head-number s =
 
 module _ (b : Bench) (a : Action) (out back : List ℕ) where
   letter-number : (l : Option Letter) (n : ℕ) → stepOf l b a out back .outcome .report ≡ report.Refused n → Refusal n
-  unfolding benchRefused benchTold if_then_else_
+  unfolding benchRefused benchTold read-step if_then_else_
   letter-number none n e = subst Refusal (ap numberIn e) one
   letter-number (some l) n e =
       by-test (benchOk b out back)
       (λ y.
       let act = rules.action l (a .place) (a .copies) (a .message) in
-      let r = refused-in-rules (rules.step numbering isMessage (benchMeans b out back) act .report) n (rw y at e) in
+      let u = use-by (rules.asks (benchMeans b out back) l (a .place) (a .message)) in
+      let d = rules.step numbering isMessage (benchMeans b out back) act .report in
+      let r = refusal-through u (b .console .ack) d n (refused-in-rules (said u (b .console .ack) d) n (rw y at e)) in
       rules-number (rules.rules-of numbering isMessage (benchMeans b out back) act) n (step-refused numbering isMessage (benchMeans b out back) act n .0 r))
       (λ z. subst Refusal (ap numberIn (rw z at e)) two)
 

@@ -135,13 +135,13 @@ state-record-left true u out z = written-kept u out z
 state-record-left false u out z = refl
 
 pub console-fresh-refusal-leaves : RefusalLeaves console-fresh-kinds.ps console-fresh-kinds.r console-fresh.Post (λ κs a. Unit {0}) (λ κs x. Refusing x) (λ κs a. now (a .0)) (λ κs x s. now (s .0))
-console-fresh-refusal-leaves κs a x s t z p = p .1 ∙ fresh-left 36 (now (a .0)) _ (λ e. z (p .0 ∙ e))
+console-fresh-refusal-leaves κs a x s t z p = p .1 ∙ fresh-left 37 (now (a .0)) _ (λ e. z (p .0 ∙ e))
 
 pub controller-fresh-refusal-leaves : RefusalLeaves controller-fresh-kinds.ps controller-fresh-kinds.r controller-fresh.Post (λ κs a. Unit {0}) (λ κs x. Refusing x) (λ κs a. now (a .0)) (λ κs x s. now (s .0))
 controller-fresh-refusal-leaves κs a x s t z p = p .1 ∙ fresh-left 23 (now (a .0)) _ (λ e. z (p .0 ∙ e))
 
 pub console-downed-refusal-leaves : RefusalLeaves console-downed-kinds.ps console-downed-kinds.r console-downed.Post (λ κs a. Unit {0}) (λ κs x. Refusing x) (λ κs a. now (a .0)) (λ κs x s. now (s .0))
-console-downed-refusal-leaves κs a x s t z p = p .1 ∙ start-left 36 (now (a .0)) (console.startAt (now (a .1 .0))) _ (λ e. z (p .0 ∙ e))
+console-downed-refusal-leaves κs a x s t z p = p .1 ∙ start-left 37 (now (a .0)) (console.startAt (now (a .1 .0))) _ (λ e. z (p .0 ∙ e))
 
 pub controller-downed-refusal-leaves : RefusalLeaves controller-downed-kinds.ps controller-downed-kinds.r controller-downed.Post (λ κs a. Unit {0}) (λ κs x. Refusing x) (λ κs a. now (a .0)) (λ κs x s. now (s .0))
 controller-downed-refusal-leaves κs a x s t z p = p .1 ∙ start-left 23 (now (a .0)) (controller.startAt (now (a .1 .0))) _ (λ e. z (p .0 ∙ e))
@@ -160,7 +160,7 @@ three r = (r .state, r .out, r .back)
 bench-left : (j : J) (i : I) (s out back : List ℕ) → Refusing (freshPut j i s out back .told) → three (freshPut j i s out back) ≡ (s, out, back)
 unfolding freshPut benchFresh benchTold benchRefused marks if_then_else_
 bench-left j i s out back z =
-    by-test (eqb (length s) 61)
+    by-test (eqb (length s) 62)
     (λ t. by-test (eqb (length out) 2048 && eqb (length back) 2048) (λ u. absurd (z (rw (t, u)))) (λ f. rw (t, f)))
     (λ f. rw f)
 

@@ -1,8 +1,9 @@
 -- What a step tells, read back: 1 to 31 is a refusal; beside any other report bit 32 and bit 128 are its marks.
 use Prim.Native.Nat.{ℕ, _/_, _%_, _<_}
 use mathlib.Core.Path.{_≡_, refl}
-use mathlib.Core.Bool.{Bool, true, false, true≢false}
+use mathlib.Core.Bool.{Bool, true, false, not, _&&_, true≢false}
 use native.Mathlib.Omega.{arith}
+use borrow.Author.Tests.{ne-eqb}
 use lib.Dec.{eqb}
 use Rattle.ends.specs.declared.Report.{Report}
 use Rattle.ends.specs.declared.Report.the-variants as report
@@ -18,6 +19,10 @@ keeps n = eqb (n / 32 % 2) 1
 
 abbrev pub sends : ℕ → Bool
 sends n = eqb (n / 128 % 2) 1
+
+-- 65 or 66, whatever is marked beside it: what became of an order
+abbrev pub answers : ℕ → Bool
+answers n = eqb (n / 64 % 2) 1 && not (eqb (n % 32) 0)
 
 by-marks : (P : Bool → Bool → Type 0) → P true true → P true false → P false true → P false false → (sent keep : Bool) → P sent keep
 by-marks P a b c d true true = a
@@ -62,3 +67,19 @@ sends-told report.Delivered sent keep e = by-marks (λ s k. sends (told report.D
 sends-told report.Ok sent keep e = by-marks (λ s k. sends (told report.Ok s k) ≡ s) refl refl refl refl sent keep
 sends-told report.Lost sent keep e = by-marks (λ s k. sends (told report.Lost s k) ≡ s) refl refl refl refl sent keep
 sends-told (report.Refused n) sent keep e = absurd (true≢false e)
+
+-- what is no answer is not told as one
+abbrev pub NoAnswer : Report → Type 0
+NoAnswer report.Nothing = Unit {0}
+NoAnswer report.Delivered = Unit {0}
+NoAnswer report.Ok = ⊥
+NoAnswer report.Lost = ⊥
+NoAnswer (report.Refused n) = Unit {0}
+
+pub no-answer-told : (r : Report) (sent keep : Bool) → ((n : ℕ) → r ≡ report.Refused n → Refusal n) → NoAnswer r → answers (told r sent keep) ≡ false
+unfolding marks
+no-answer-told report.Nothing sent keep h q = by-marks (λ s k. answers (told report.Nothing s k) ≡ false) refl refl refl refl sent keep
+no-answer-told report.Delivered sent keep h q = by-marks (λ s k. answers (told report.Delivered s k) ≡ false) refl refl refl refl sent keep
+no-answer-told report.Ok sent keep h q = absurd q
+no-answer-told report.Lost sent keep h q = absurd q
+no-answer-told (report.Refused n) sent keep h q = let small = h n refl .1 in rw (ne-eqb (n / 64 % 2) 1 (λ e. omega (arith, small, e)))

@@ -38,7 +38,7 @@ module _ (s : List ℕ) (a b n : ℕ) (l : length s ≡ n) (h : a ≤ b) (k : b 
   pub front-parts : {p q r : List ℕ} → y ≡ p → z ≡ q → w ≡ r → replaced (replaced (replaced s 0 a y) a b z) b n w ≡ (p ++ q) ++ r
   front-parts {p} {q} {r} c d g = three-parts c d g ∙ sym (append-assoc p q r)
 
--- what a part is filled with, from the answers of the calls that made it: an array, or one or two bytes
+-- what a part is filled with, from the answers of the calls that made it: an array, or one, two or three bytes
 pub filled : {y u p : List ℕ} → y ≡ u → u ≡ p → y ≡ p
 filled e f = e ∙ f
 
@@ -47,6 +47,9 @@ filled-one e f = e ∙ rw f
 
 pub filled-two : {y : List ℕ} {u v p q : ℕ} → y ≡ u ∷ v ∷ [] → u ≡ p → v ≡ q → y ≡ p ∷ q ∷ []
 filled-two e f g = e ∙ rw (f, g)
+
+pub filled-three : {y : List ℕ} {u v w p q r : ℕ} → y ≡ u ∷ v ∷ w ∷ [] → u ≡ p → v ≡ q → w ≡ r → y ≡ p ∷ q ∷ r ∷ []
+filled-three e f g h = e ∙ rw (f, g, h)
 
 -- a message has room in 16 bytes
 pub message-room : (x m : List ℕ) → length x ≡ 16 → length m ≡ 16 → length x ≡ length m

@@ -35,28 +35,40 @@ use Rattle.boundary.proofs.controller.nooseless_controller_record.Reads
 
 -- ## A console
 
-pub console-fresh-changes-nothing : RulesOut console-fresh-kinds.ps console-fresh-kinds.r console-fresh.Post (λ κs a. now (a .0) ≡ replicate 36 0xFF) (λ κs a x s. now (s .0) ≡ now (a .0))
+pub console-fresh-changes-nothing : RulesOut console-fresh-kinds.ps console-fresh-kinds.r console-fresh.Post (λ κs a. now (a .0) ≡ replicate 37 0xFF) (λ κs a x s. now (s .0) ≡ now (a .0))
 unfolding written console.consoleBytes bytesOf if_then_else_
-console-fresh-changes-nothing κs a x s e w p = unequal (ap (λ (l : List ℕ). getD l 19 0) (sym e ∙ sym w ∙ p .1 ∙ ap (λ (l : List ℕ). written 36 l (console.consoleBytes (freshConsole (record { 0 = a .1 .0 })))) e)) refl
+console-fresh-changes-nothing κs a x s e w p = unequal (ap (λ (l : List ℕ). getD l 19 0) (sym e ∙ sym w ∙ p .1 ∙ ap (λ (l : List ℕ). written 37 l (console.consoleBytes (freshConsole (record { 0 = a .1 .0 })))) e)) refl
 
-pub console-fresh-in-30-bytes : RulesOut console-fresh-kinds.ps console-fresh-kinds.r console-fresh.Post (λ κs a. length (now (a .0)) ≡ 30) (λ κs a x s. x ≡ 0)
+pub console-fresh-in-36-bytes : RulesOut console-fresh-kinds.ps console-fresh-kinds.r console-fresh.Post (λ κs a. length (now (a .0)) ≡ 36) (λ κs a x s. x ≡ 0)
 unfolding lengthRefusal if_then_else_
-console-fresh-in-30-bytes κs a x s e w p = unequal (sym w ∙ p .0 ∙ ap (λ (k : ℕ). if eqb k 36 then 0 else 2) e) refl
+console-fresh-in-36-bytes κs a x s e w p = unequal (sym w ∙ p .0 ∙ ap (λ (k : ℕ). if eqb k 37 then 0 else 2) e) refl
 
-pub console-takes-the-other-record : RulesOut console-downed-kinds.ps console-downed-kinds.r console-downed.Post (λ κs a. (length (now (a .0)) ≡ 36) × (now (a .1 .0) ≡ recordBytes (ControllerOld (record { 0 = 0 })))) (λ κs a x s. x ≡ 0)
+pub console-takes-the-other-record : RulesOut console-downed-kinds.ps console-downed-kinds.r console-downed.Post (λ κs a. (length (now (a .0)) ≡ 37) × (now (a .1 .0) ≡ recordBytes (ControllerOld (record { 0 = 0 })))) (λ κs a x s. x ≡ 0)
 unfolding startRefusal startOf if_then_else_
-console-takes-the-other-record κs a x s e w p = unequal (sym w ∙ p .0 ∙ (λ i. if eqb (e .0 i) 36 then (ap (startIn 1) (ap recordRead (e .1) ∙ record-read-back (ControllerOld (record { 0 = 0 })) (omega arith) refl)) i .refusal else 2)) refl
+console-takes-the-other-record κs a x s e w p = unequal (sym w ∙ p .0 ∙ (λ i. if eqb (e .0 i) 37 then (ap (startIn 1) (ap recordRead (e .1) ∙ record-read-back (ControllerOld (record { 0 = 0 })) (omega arith) refl)) i .refusal else 2)) refl
 
-pub console-comes-up-by-itself : RulesOut console-downed-kinds.ps console-downed-kinds.r console-downed.Post (λ κs a. (now (a .0) ≡ replicate 36 0) × (now (a .1 .0) ≡ recordBytes (ConsoleOld (record { 0 = 0 })))) (λ κs a x s. getD (now (s .0)) 19 0 ≡ 1)
-unfolding started startRefusal startOf console.consoleBytes bytesOf if_then_else_
+-- what a start leaves in zero bytes, from a record of number 0
+downed-so : (s r : List ℕ) → s ≡ replicate 37 0 → r ≡ recordBytes (ConsoleOld (record { 0 = 0 })) → started 37 s (console.startAt r) (console.downedBytes r) ≡ console.consoleBytes (downedConsole (numbersKept 0 64))
+unfolding started startRefusal startOf if_then_else_
+downed-so s r e f =
+    let l = ap (startIn 1) (ap recordRead f ∙ record-read-back (ConsoleOld (record { 0 = 0 })) (omega arith) refl) in
+    λ i. started 37 (e i) (l i) (console.consoleBytes (downedConsole (numbersKept (l i .number) (l i .block))))
+
+pub console-comes-up-by-itself : RulesOut console-downed-kinds.ps console-downed-kinds.r console-downed.Post (λ κs a. (now (a .0) ≡ replicate 37 0) × (now (a .1 .0) ≡ recordBytes (ConsoleOld (record { 0 = 0 })))) (λ κs a x s. getD (now (s .0)) 19 0 ≡ 1)
+unfolding console.consoleBytes bytesOf
 console-comes-up-by-itself κs a x s e w p =
-    let l = ap (startIn 1) (ap recordRead (e .1) ∙ record-read-back (ConsoleOld (record { 0 = 0 })) (omega arith) refl) in
-    unequal (sym w ∙ ap (λ (b : List ℕ). getD b 19 0) (p .1 ∙ (λ i. started 36 (e .0 i) (l i) (console.consoleBytes (downedConsole (numbersKept (l i .number) (l i .block))))))) refl
+    unequal (sym w ∙ ap (λ (b : List ℕ). getD b 19 0) (p .1 ∙ downed-so (now (a .0)) (now (a .1 .0)) (e .0) (e .1))) refl
+
+-- an answer that was not read is lost with the power
+pub console-starts-with-an-answer : RulesOut console-downed-kinds.ps console-downed-kinds.r console-downed.Post (λ κs a. (now (a .0) ≡ replicate 37 0) × (now (a .1 .0) ≡ recordBytes (ConsoleOld (record { 0 = 0 })))) (λ κs a x s. getD (now (s .0)) 20 0 ≡ 1)
+unfolding console.consoleBytes bytesOf
+console-starts-with-an-answer κs a x s e w p =
+    unequal (sym w ∙ ap (λ (b : List ℕ). getD b 20 0) (p .1 ∙ downed-so (now (a .0)) (now (a .1 .0)) (e .0) (e .1))) refl
 
 -- a box in the field has a record of 12 bytes
-pub console-refuses-the-old-record : RulesOut console-downed-kinds.ps console-downed-kinds.r console-downed.Post (λ κs a. (length (now (a .0)) ≡ 36) × (now (a .1 .0) ≡ recordBytes (ConsoleOld (record { 0 = 7 })))) (λ κs a x s. x ≡ 12)
+pub console-refuses-the-old-record : RulesOut console-downed-kinds.ps console-downed-kinds.r console-downed.Post (λ κs a. (length (now (a .0)) ≡ 37) × (now (a .1 .0) ≡ recordBytes (ConsoleOld (record { 0 = 7 })))) (λ κs a x s. x ≡ 12)
 unfolding startRefusal startOf if_then_else_
-console-refuses-the-old-record κs a x s e w p = unequal (sym w ∙ p .0 ∙ (λ i. if eqb (e .0 i) 36 then (ap (startIn 1) (ap recordRead (e .1) ∙ record-read-back (ConsoleOld (record { 0 = 7 })) (omega arith) refl)) i .refusal else 2)) refl
+console-refuses-the-old-record κs a x s e w p = unequal (sym w ∙ p .0 ∙ (λ i. if eqb (e .0 i) 37 then (ap (startIn 1) (ap recordRead (e .1) ∙ record-read-back (ConsoleOld (record { 0 = 7 })) (omega arith) refl)) i .refusal else 2)) refl
 
 pub console-records-no-state : RulesOut console-record-kinds.ps console-record-kinds.r console-record.Post (λ κs a. now (a .0) ≡ []) (λ κs a x s. x ≡ 0)
 unfolding stateRecordRefusal consoleOk console.consoleAt console.isState if_then_else_

@@ -1,4 +1,4 @@
--- A bench's state as 61 bytes beside its two tables, and what each entry for it does. Assumes nothing.
+-- A bench's state as 62 bytes beside its two tables, and what each entry for it does. Assumes nothing.
 use Prim.Native.Nat.{ℕ, _*_, _%_}
 use mathlib.Core.Bool.{false}
 use mathlib.Core.List.{List, [], _∷_, _++_}
@@ -17,21 +17,21 @@ use Rattle.boundary.specs.Console.{consoleBytes, noConsole, consoleAt}
 use Rattle.boundary.specs.Controller.{controllerBytes, noController, controllerAt, deliveredTo}
 use Rattle.boundary.specs.State.{isRefusal, told, written}
 
--- 59 packets on their way to the controller; 60 to the console. A well-formed bench has at most 64 of each
+-- 60 packets on their way to the controller; 61 to the console. A well-formed bench has at most 64 of each
 abbrev pub counts : ℕ → ℕ → List ℕ
 counts sent returned = sent % 256 ∷ returned % 256 ∷ []
 
--- 0-35 the console's state; 36-58 the controller's
+-- 0-36 the console's state; 37-59 the controller's
 unfoldable pub benchBytes : Bench → List ℕ
 benchBytes b = consoleBytes (b .console) ++ (controllerBytes (b .controller) ++ counts (b .sent) (b .returned))
 
 unfoldable pub partsAt : List ℕ → Bench
 partsAt s =
     record {
-      console = consoleAt (field s 0 36);
-      controller = controllerAt (field s 36 23);
-      sent = getD s 59 0;
-      returned = getD s 60 0;
+      console = consoleAt (field s 0 37);
+      controller = controllerAt (field s 37 23);
+      sent = getD s 60 0;
+      returned = getD s 61 0;
     }
 
 -- what bytes of another length stand for: two ends that are none
@@ -39,7 +39,7 @@ abbrev pub noBench : Bench
 noBench = record { console = noConsole; controller = noController; sent = 0; returned = 0 }
 
 unfoldable pub benchAt : List ℕ → Bench
-benchAt s = if eqb (length s) 61 then partsAt s else noBench
+benchAt s = if eqb (length s) 62 then partsAt s else noBench
 
 -- ## Fresh, and a step
 
@@ -55,7 +55,7 @@ abbrev pub put : List ℕ → Result → BenchPut
 put s r =
     record {
       told = told (r .outcome .report) false false;
-      state = if isRefusal (r .outcome .report) then s else written 61 s (benchBytes (r .outcome .bench));
+      state = if isRefusal (r .outcome .report) then s else written 62 s (benchBytes (r .outcome .bench));
       out = r .out;
       back = r .back;
     }
@@ -63,7 +63,7 @@ put s r =
 -- a state or a table of another length is 2, and all three are left
 unfoldable pub freshPut : J → I → List ℕ → List ℕ → List ℕ → BenchPut
 freshPut j i s out back =
-    if eqb (length s) 61 then put s (benchFresh j i out back) else record { told = 2; state = s; out = out; back = back }
+    if eqb (length s) 62 then put s (benchFresh j i out back) else record { told = 2; state = s; out = out; back = back }
 
 abbrev pub stepResult : List ℕ → Action → List ℕ → List ℕ → Result
 stepResult s a out back = benchStep (benchAt s) a out back
@@ -101,7 +101,7 @@ showTo end place out sent back returned =
 
 -- it looks only at lengths, counts and place: 2, then 3
 unfoldable pub showAt : List ℕ → List ℕ → List ℕ → ℕ → ℕ → ℕ
-showAt s out back end place = if eqb (length s) 61 then showTo end place out (getD s 59 0) back (getD s 60 0) else 2
+showAt s out back end place = if eqb (length s) 62 then showTo end place out (getD s 60 0) back (getD s 61 0) else 2
 
 -- where the 32 bytes begin in that channel's table
 unfoldable pub offsetAt : ℕ → ℕ → ℕ → ℕ

@@ -1,4 +1,4 @@
--- A console's state as 36 bytes, and what each entry for it does. Assumes nothing.
+-- A console's state as 37 bytes, and what each entry for it does. Assumes nothing.
 use Prim.Native.Nat.{ℕ}
 use mathlib.Core.Bool.{Bool, false, _&&_}
 use mathlib.Core.List.{List, [], _∷_, _++_}
@@ -18,33 +18,34 @@ use Rattle.alone.specs.ConsoleAlone.{ConsoleAlone, consoleAlone}
 use Rattle.boundary.specs.declared.state.Start.{Start}
 use Rattle.boundary.specs.State.{numbersBytes, numbersAt, flag, isRefusal, changed, told, startIn, written}
 
--- 0-9 its numbers, of J; 10-13 j; 14-17 last; 18 held; 19 up. Flags are 0 or 1
+-- 0-9 its numbers, of J; 10-13 j; 14-17 last; 18 held; 19 up; 20 ack, 1 for OK. Flags are 0 or 1
 abbrev pub front : Console → List ℕ
-front c = numbersBytes (c .numbers) ++ (bytesOf 4 (c .j .0) ++ (bytesOf 4 (c .last .0) ++ (flag (c .held) ∷ flag (c .up) ∷ [])))
+front c = numbersBytes (c .numbers) ++ (bytesOf 4 (c .j .0) ++ (bytesOf 4 (c .last .0) ++ (flag (c .held) ∷ flag (c .up) ∷ flag (c .ack) ∷ [])))
 
--- 20-35 message
+-- 21-36 message
 unfoldable pub consoleBytes : Console → List ℕ
 consoleBytes c = front c ++ c .message
 
--- 36 bytes with two flags
+-- 37 bytes with three flags
 unfoldable pub isState : List ℕ → Bool
-isState s = eqb (length s) 36 && leb (getD s 18 0) 1 && leb (getD s 19 0) 1
+isState s = eqb (length s) 37 && leb (getD s 18 0) 1 && leb (getD s 19 0) 1 && leb (getD s 20 0) 1
 
 unfoldable pub fieldsAt : List ℕ → Console
 fieldsAt s =
     record {
       numbers = numbersAt s;
       held = eqb (getD s 18 0) 1;
-      message = drop 20 s;
+      message = drop 21 s;
       j = record { 0 = value (field s 10 4) };
       last = record { 0 = value (field s 14 4) };
       up = eqb (getD s 19 0) 1;
+      ack = eqb (getD s 20 0) 1;
     }
 
 -- what bytes that are no state stand for: fields that contradict each other, a j with no message held
 abbrev pub noConsole : Console
 noConsole =
-    record { numbers = numbersFresh 0; held = false; message = spaces; j = record { 0 = 1 }; last = record { 0 = 0 }; up = false }
+    record { numbers = numbersFresh 0; held = false; message = spaces; j = record { 0 = 1 }; last = record { 0 = 0 }; up = false; ack = false }
 
 unfoldable pub consoleAt : List ℕ → Console
 consoleAt s = if isState s then fieldsAt s else noConsole
@@ -73,7 +74,7 @@ abbrev pub stepped : List ℕ → ConsoleAlone → ConsoleStep
 stepped s a =
     record {
       told = told (a .outcome .report) (a .outcome .sent) (changed (consoleAt s .numbers) (a .outcome .console .numbers));
-      state = if isRefusal (a .outcome .report) then s else written 36 s (consoleBytes (a .outcome .console));
+      state = if isRefusal (a .outcome .report) then s else written 37 s (consoleBytes (a .outcome .console));
       reply = a .reply;
     }
 

@@ -3,4 +3,4 @@ use Prim.Native.Nat.{ℕ}
 
 -- the header's NOOSELESS_VERSION; it changes with what an entry takes, gives or means
 abbrev pub version : ℕ
-version = 2
+version = 3

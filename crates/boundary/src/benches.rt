@@ -1,4 +1,4 @@
-// A bench in C's hands: its state is 61 bytes that the caller keeps beside its two tables.
+// A bench in C's hands: its state is 62 bytes that the caller keeps beside its two tables.
 use crate::console::console_at;
 use crate::console::no_console;
 use crate::console::put_console;
@@ -31,16 +31,16 @@ fn count_of(x: u8) -> usize
 }
 
 fn parts_at(s: &[u8]) -> Bench
-    requires { ⌜ length (now s) ≡ 61 ⌝ }
+    requires { ⌜ length (now s) ≡ 62 ⌝ }
     ensures { λ r. ⌜ r ≡ partsAt (now (s .entry)) ⌝ }
 {
-    let console = console_at(&s[0..36]);
-    let controller = controller_at(&s[36..59]);
+    let console = console_at(&s[0..37]);
+    let controller = controller_at(&s[37..60]);
     Bench {
         console,
         controller,
-        sent: count_of(s[59]),
-        returned: count_of(s[60]),
+        sent: count_of(s[60]),
+        returned: count_of(s[61]),
     }
 }
 
@@ -61,7 +61,7 @@ fn no_bench() -> Bench
 fn bench_at(s: &[u8]) -> Bench
     ensures { λ r. ⌜ r ≡ benchAt (now (s .entry)) ⌝ }
 {
-    if s.len() != 61 {
+    if s.len() != 62 {
         return no_bench();
     }
     parts_at(s)
@@ -75,25 +75,25 @@ fn count_byte(n: usize) -> u8
 }
 
 fn put_bench(state: &mut [u8], b: Bench)
-    requires { ⌜ length (now state) ≡ 61 ⌝ }
+    requires { ⌜ length (now state) ≡ 62 ⌝ }
     ensures { λ _. ⌜ now (state .exit) ≡ benchBytes b ⌝ }
 {
     let console = b.console;
     let controller = b.controller;
     let counts = [count_byte(b.sent), count_byte(b.returned)];
-    put_console(&mut state[0..36], console);
-    put_controller(&mut state[36..59], controller);
-    fill(&mut state[59..61], &counts);
+    put_console(&mut state[0..37], console);
+    put_controller(&mut state[37..60], controller);
+    fill(&mut state[60..62], &counts);
 }
 
 // A refusal leaves the state.
 fn keep(state: &mut [u8], report: Report, after: Bench)
-    ensures { λ _. ⌜ now (state .exit) ≡ (if isRefusal report then now (state .entry) else written 61 (now (state .entry)) (benchBytes after)) ⌝ }
+    ensures { λ _. ⌜ now (state .exit) ≡ (if isRefusal report then now (state .entry) else written 62 (now (state .entry)) (benchBytes after)) ⌝ }
 {
     if is_refusal(report) {
         return;
     }
-    if state.len() != 61 {
+    if state.len() != 62 {
         return;
     }
     put_bench(state, after);
@@ -110,7 +110,7 @@ pub extern "C" fn nooseless_bench_fresh(
 ) -> u8
     ensures { λ r. ⌜ record { told = r; state = now (state .exit); out = now (out .exit); back = now (back .exit) } ≡ freshPut (record { 0 = «console_last_used» }) (record { 0 = «controller_last_used» }) (now (state .entry)) (now (out .entry)) (now (back .entry)) ⌝ }
 {
-    if state.len() != 61 {
+    if state.len() != 62 {
         return 2;
     }
     let made = bench::fresh(J(console_last_used), I(controller_last_used), out, back);
@@ -120,7 +120,7 @@ pub extern "C" fn nooseless_bench_fresh(
     told(report, false, false)
 }
 
-// One of the thirteen actions, with any place and any copies.
+// One of the fourteen actions, with any place and any copies.
 #[no_mangle]
 pub extern "C" fn nooseless_bench_step(
     state: &mut [u8],
@@ -176,11 +176,11 @@ pub extern "C" fn nooseless_bench_show(
 ) -> u8
     ensures { λ r. ⌜ (r ≡ showAt (now (state .entry)) (now (out .entry)) (now (back .entry)) end place) × (now (offset .exit) ≡ offsetAt (showAt (now (state .entry)) (now (out .entry)) (now (back .entry)) end place) place (now (offset .entry))) ⌝ }
 {
-    if state.len() != 61 {
+    if state.len() != 62 {
         return 2;
     }
-    let sent = count_of(state[59]);
-    let returned = count_of(state[60]);
+    let sent = count_of(state[60]);
+    let returned = count_of(state[61]);
     let refusal = show_to(end, place, out, sent, back, returned);
     if refusal != 0 {
         return refusal;

@@ -1,4 +1,4 @@
-// A console in C's hands: its state is 36 bytes that the caller keeps.
+// A console in C's hands: its state is 37 bytes that the caller keeps.
 use crate::state::changed;
 use crate::state::fill;
 use crate::state::flag;
@@ -26,16 +26,16 @@ ghost use Rattle.boundary.specs.Console.{consoleBytes, fieldsAt, noConso
 ghost use Rattle.boundary.specs.Console.{consoleRecord, startAt, downedBytes, consoleStep};
 
 fn message_at(s: &[u8]) -> [u8; 16]
-    requires { ⌜ length (now s) ≡ 36 ⌝ }
-    ensures { λ r. ⌜ r ≡ drop 20 (now (s .entry)) ⌝ }
+    requires { ⌜ length (now s) ≡ 37 ⌝ }
+    ensures { λ r. ⌜ r ≡ drop 21 (now (s .entry)) ⌝ }
 {
     let mut m = [0; 16];
-    bytes::copy(&s[20..], &mut m);
+    bytes::copy(&s[21..], &mut m);
     m
 }
 
 fn fields_at(s: &[u8]) -> Console
-    requires { ⌜ length (now s) ≡ 36 ⌝ }
+    requires { ⌜ length (now s) ≡ 37 ⌝ }
     ensures { λ r. ⌜ r ≡ fieldsAt (now (s .entry)) ⌝ }
 {
     let numbers = numbers_at(s);
@@ -49,6 +49,7 @@ fn fields_at(s: &[u8]) -> Console
         j,
         last,
         up: s[19] == 1,
+        ack: s[20] == 1,
     }
 }
 
@@ -63,13 +64,14 @@ pub(crate) fn no_console() -> Console
         j: J(1),
         last: I(0),
         up: false,
+        ack: false,
     }
 }
 
 pub(crate) fn console_at(s: &[u8]) -> Console
     ensures { λ r. ⌜ r ≡ consoleAt (now (s .entry)) ⌝ }
 {
-    if s.len() != 36 {
+    if s.len() != 37 {
         return no_console();
     }
     if 1 < s[18] {
@@ -78,37 +80,40 @@ pub(crate) fn console_at(s: &[u8]) -> Console
     if 1 < s[19] {
         return no_console();
     }
+    if 1 < s[20] {
+        return no_console();
+    }
     fields_at(s)
 }
 
-// Bytes 10 to 19 of a state.
+// Bytes 10 to 20 of a state.
 fn put_rest(part: &mut [u8], c: Console)
-    requires { ⌜ length (now part) ≡ 10 ⌝ }
-    ensures { λ _. ⌜ now (part .exit) ≡ bytesOf 4 (c .j .0) ++ (bytesOf 4 (c .last .0) ++ (flag (c .held) ∷ flag (c .up) ∷ [])) ⌝ }
+    requires { ⌜ length (now part) ≡ 11 ⌝ }
+    ensures { λ _. ⌜ now (part .exit) ≡ bytesOf 4 (c .j .0) ++ (bytesOf 4 (c .last .0) ++ (flag (c .held) ∷ flag (c .up) ∷ flag (c .ack) ∷ [])) ⌝ }
 {
     let j = wire::big_endian(c.j.0);
     let last = wire::big_endian(c.last.0);
-    let flags = [flag(c.held), flag(c.up)];
+    let flags = [flag(c.held), flag(c.up), flag(c.ack)];
     fill(&mut part[0..4], &j);
     fill(&mut part[4..8], &last);
-    fill(&mut part[8..10], &flags);
+    fill(&mut part[8..11], &flags);
 }
 
 pub(crate) fn put_console(state: &mut [u8], c: Console)
-    requires { ⌜ length (now state) ≡ 36 ⌝ }
+    requires { ⌜ length (now state) ≡ 37 ⌝ }
     ensures { λ _. ⌜ now (state .exit) ≡ consoleBytes c ⌝ }
 {
     let numbers = c.numbers;
     let message = c.message;
     put_numbers(&mut state[0..10], numbers);
-    put_rest(&mut state[10..20], c);
-    fill(&mut state[20..36], &message);
+    put_rest(&mut state[10..21], c);
+    fill(&mut state[21..37], &message);
 }
 
 fn write_console(state: &mut [u8], c: Console) -> u8
-    ensures { λ r. ⌜ (r ≡ lengthRefusal 36 (now (state .entry))) × (now (state .exit) ≡ written 36 (now (state .entry)) (consoleBytes c)) ⌝ }
+    ensures { λ r. ⌜ (r ≡ lengthRefusal 37 (now (state .entry))) × (now (state .exit) ≡ written 37 (now (state .entry)) (consoleBytes c)) ⌝ }
 {
-    if state.len() != 36 {
+    if state.len() != 37 {
         return 2;
     }
     put_console(state, c);
@@ -118,18 +123,18 @@ fn write_console(state: &mut [u8], c: Console) -> u8
 // Up and idle, with any last used.
 #[no_mangle]
 pub extern "C" fn nooseless_console_fresh(state: &mut [u8], last_used: u32) -> u8
-    ensures { λ r. ⌜ (r ≡ lengthRefusal 36 (now (state .entry))) × (now (state .exit) ≡ written 36 (now (state .entry)) (consoleBytes (freshConsole (record { 0 = «last_used» })))) ⌝ }
+    ensures { λ r. ⌜ (r ≡ lengthRefusal 37 (now (state .entry))) × (now (state .exit) ≡ written 37 (now (state .entry)) (consoleBytes (freshConsole (record { 0 = «last_used» })))) ⌝ }
 {
     write_console(state, fields::fresh_console(J(last_used)))
 }
 
-// After power loss: down, with the numbers of the console's number record, of either version.
+// After power loss: down, with the numbers of the console's number record, of either version, and no answer.
 #[no_mangle]
 pub extern "C" fn nooseless_console_downed(state: &mut [u8], record: &[u8]) -> u8
-    ensures { λ r. ⌜ (r ≡ startRefusal 36 (now (state .entry)) (startAt (now («record» .entry)))) × (now (state .exit) ≡ started 36 (now (state .entry)) (startAt (now («record» .entry))) (downedBytes (now («record» .entry)))) ⌝ }
+    ensures { λ r. ⌜ (r ≡ startRefusal 37 (now (state .entry)) (startAt (now («record» .entry)))) × (now (state .exit) ≡ started 37 (now (state .entry)) (startAt (now («record» .entry))) (downedBytes (now («record» .entry)))) ⌝ }
 {
     let start = start_in(1, record);
-    if state.len() != 36 {
+    if state.len() != 37 {
         return 2;
     }
     if start.refusal != 0 {
@@ -159,7 +164,7 @@ pub extern "C" fn nooseless_console_record(state: &[u8], out: &mut [u8]) -> u8
 
 // A refusal leaves the state.
 fn keep(state: &mut [u8], report: Report, after: Console)
-    ensures { λ _. ⌜ now (state .exit) ≡ (if isRefusal report then now (state .entry) else written 36 (now (state .entry)) (consoleBytes after)) ⌝ }
+    ensures { λ _. ⌜ now (state .exit) ≡ (if isRefusal report then now (state .entry) else written 37 (now (state .entry)) (consoleBytes after)) ⌝ }
 {
     if is_refusal(report) {
         return;
@@ -167,7 +172,7 @@ fn keep(state: &mut [u8], report: Report, after: Console)
     write_console(state, after);
 }
 
-// P Q D S C V of a console run alone.
+// P Q D S C V A of a console run alone.
 #[no_mangle]
 pub extern "C" fn nooseless_console_step(
     state: &mut [u8],

@@ -7,5 +7,5 @@ ghost use Rattle.boundary.specs.Version.{version};
 pub extern "C" fn nooseless_version() -> u32
     ensures { λ r. ⌜ r ≡ version ⌝ }
 {
-    2
+    3
 }

@@ -12,13 +12,13 @@ use Rattle.ground.specs.Choice.{if_then_else_}
 use Rattle.ground.proofs.Tests.{by-test}
 use Rattle.wire.specs.declared.I.{I}
 use Rattle.wire.specs.declared.J.{J}
-use Rattle.rules.specs.Supply.{numbering, Numbers, fresh-numbers}
-use Rattle.rules.specs.Bench as rules
+use Rattle.rules.specs.Supply.{numbering, fresh-numbers}
 use Rattle.rules.specs.Log.{Event}
-use Rattle.rules.specs.Plain.{Plain}
+use Rattle.rules.specs.ReadPlain.{Plain-read}
+use Rattle.rules.specs.ReadDemand3.{firsts, spares-lost}
 use Rattle.rules.specs.Demand3.{written}
 use Rattle.rules.specs.WellFormed.{Well-formed}
-use Rattle.rules.proofs.Plain.{right-plain}
+use Rattle.rules.proofs.ReadPlain.{right-read-plain}
 use Rattle.rules.proofs.WellFormed.{fresh-well-formed}
 use Rattle.numbers.proofs.Range.{fresh-sound}
 use Rattle.ends.specs.AsRules.{numberIn}
@@ -30,7 +30,7 @@ use Rattle.bench.specs.Orders.{outcomes, freshOutcomes, shownBy, allShown, Rows
 use Rattle.bench.specs.declared.Action.{Action}
 use Rattle.bench.specs.declared.Bench.{Bench}
 use Rattle.bench.proofs.StepLeaves.{Leaves, step-leaves}
-use Rattle.bench.proofs.Orders.{out, back, orders-right}
+use Rattle.bench.proofs.Orders.{Here, out, back, orders-right}
 use Rattle.boundary.specs.Controller.{deliveredTo}
 use Rattle.boundary.specs.State as state
 use Rattle.boundary.specs.State.{isRefusal, marks, told}
@@ -42,16 +42,16 @@ use Rattle.demand3.specs.BenchForC.{Call, Seen, calls, freshCalls, byteS
 
 -- ## Where the rules' bench stands, its bytes read back
 
-abbrev kept : rules.Bench Numbers (List ℕ) → List ℕ
+abbrev kept : Here → List ℕ
 kept b = benchBytes (benchBack b)
 
-module _ (b : rules.Bench Numbers (List ℕ)) (w : Well-formed numbering isMessage b) where
+module _ (b : Here) (w : Well-formed numbering isMessage (b .history)) where
   reads-back : benchAt (kept b) ≡ benchBack b
   unfolding benchBack
   reads-back =
       bench-read-back (benchBack b)
-      (console.fields-left (b .console) (w .console) .1)
-      (controller.fields-left (b .controller) (w .controller) .1)
+      (console.fields-left (b .history .console) (b .ack) (w .console) .1)
+      (controller.fields-left (b .history .controller) (w .controller) .1)
       (w .to-controller-room) (w .to-console-room)
 
 -- ## One call
@@ -82,7 +82,7 @@ is-refused report.Ok e = absurd (false≢true e)
 is-refused report.Lost e = absurd (false≢true e)
 is-refused (report.Refused n) e = refl
 
-module _ (b : rules.Bench Numbers (List ℕ)) (w : Well-formed numbering isMessage b) (a : Action) where
+module _ (b : Here) (w : Well-formed numbering isMessage (b .history)) (a : Action) where
   abbrev result : Result
   result = benchStep (benchBack b) a (out b) (back b)
 
@@ -112,7 +112,7 @@ module _ (b : rules.Bench Numbers (List ℕ)) (w : Well-formed numbering isMessa
 
 -- ## All calls
 
-calls-show : (b : rules.Bench Numbers (List ℕ)) → Well-formed numbering isMessage b → (l : List Call)
+calls-show : (b : Here) → Well-formed numbering isMessage (b .history) → (l : List Call)
     → callsShow l (calls (kept b) (out b) (back b) l) ≡ allShown (actionsOf l) (outcomes (benchBack b) (out b) (back b) (actionsOf l))
 unfolding callsShow calls outcomes allShown
 calls-show b w [] = refl
@@ -128,33 +128,40 @@ calls-show b w (c ∷ l) =
     ap₂ (λ (x : Option (Event (List ℕ))) (xs : Rows). x ∷ xs) (row-shown b w a v (c .lent))
     (ap (callsShow l) next ∙ calls-show (v .after) (v .well-formed) l ∙ ap (allShown (actionsOf l)) (sym later))
 
--- ## From `nooseless_bench_fresh` on: any two numbers, any state of 61 bytes, any tables of 2,048 bytes, any calls
+-- ## From `nooseless_bench_fresh` on: any two numbers, any state of 62 bytes, any tables of 2,048 bytes, any calls
 
-module _ (j : J) (i : I) (s out₀ back₀ : List ℕ) (p : j .0 < 2 ^ 32) (q : i .0 < 2 ^ 32) (k : length s ≡ 61) (m : length out₀ ≡ 2048) (n : length back₀ ≡ 2048) (l : List Call) where
-  abbrev b : rules.Bench Numbers (List ℕ)
+module _ (j : J) (i : I) (s out₀ back₀ : List ℕ) (p : j .0 < 2 ^ 32) (q : i .0 < 2 ^ 32) (k : length s ≡ 62) (m : length out₀ ≡ 2048) (n : length back₀ ≡ 2048) (l : List Call) where
+  abbrev b : Here
   b = freshRules j i
 
   fresh-put : freshPut j i s out₀ back₀ ≡ record { told = 0; state = kept b; out = out b; back = back b }
   unfolding freshPut benchFresh benchTold state.written marks if_then_else_
-  fresh-put = rw (eq-eqb (length s) 61 k, eq-eqb (length out₀) 2048 m, eq-eqb (length back₀) 2048 n)
+  fresh-put = rw (eq-eqb (length s) 62 k, eq-eqb (length out₀) 2048 m, eq-eqb (length back₀) 2048 n)
 
   fresh-told : freshOutcomes j i out₀ back₀ (actionsOf l) ≡ outcomes (benchBack b) (out b) (back b) (actionsOf l)
   unfolding freshOutcomes benchFresh benchTold if_then_else_
   fresh-told = rw (eq-eqb (length out₀) 2048 m, eq-eqb (length back₀) 2048 n)
 
-  fresh-ok : Well-formed numbering isMessage b
+  fresh-ok : Well-formed numbering isMessage (b .history)
   fresh-ok = fresh-well-formed numbering isMessage (fresh-numbers (j .0)) (fresh-numbers (i .0)) (fresh-sound (j .0) p) (fresh-sound (i .0) q)
 
-  pub calls-right : CallsRight j i s out₀ back₀ l
+  -- what the calls show is what the outcomes show
+  calls-shown : allShown (actionsOf l) (freshOutcomes j i out₀ back₀ (actionsOf l)) ≡ callsShow l (freshCalls j i s out₀ back₀ l)
   unfolding freshCalls
+  calls-shown =
+      ap (allShown (actionsOf l)) fresh-told ∙ sym (calls-show b fresh-ok l) ∙ ap (λ (x : BenchPut). callsShow l (calls (x .state) (x .out) (x .back) l)) (sym fresh-put)
+
+  pub calls-right : CallsRight j i s out₀ back₀ l
   calls-right =
       let orders = orders-right j i out₀ back₀ p q m n (actionsOf l) in
       record {
         begun = ap (λ (x : BenchPut). x .told) fresh-put;
         right = orders .right;
-        own = orders .own ∙ ap (allShown (actionsOf l)) fresh-told ∙ sym (calls-show b fresh-ok l) ∙ ap (λ (x : BenchPut). callsShow l (calls (x .state) (x .out) (x .back) l)) (sym fresh-put);
+        own = orders .own ∙ ap (firsts false) calls-shown;
+        spare = ap (spares-lost false) (sym calls-shown) ∙ orders .spare;
+        history = orders .history;
       }
 
   -- in plain words
-  pub calls-plain : Plain (written (rowsOf [] (rules.fresh (fresh-numbers (j .0)) (fresh-numbers (i .0))) (actionsOf l)) [])
-  calls-plain = right-plain _ (calls-right .right)
+  pub calls-plain : Plain-read (written (rowsOf j i (actionsOf l)) [])
+  calls-plain = right-read-plain _ (calls-right .right)

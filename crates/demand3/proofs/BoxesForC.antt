@@ -20,17 +20,17 @@ use Rattle.wire.specs.declared.NumberRecord.{NumberRecord}
 use Rattle.wire.specs.declared.NumberRecord.the-variants as number-record
 use Rattle.wire.proofs.Carrying.{renewed-end, renewed-number, renewed-block}
 use Rattle.wire.proofs.RecordTrips.{record-read-back}
-use Rattle.rules.specs.Supply as rules
 use Rattle.rules.specs.Supply.{numbering, largest}
 use Rattle.rules.specs.Bench as bench
 use Rattle.rules.specs.Log as log
-use Rattle.rules.specs.Plain.{Plain}
+use Rattle.rules.specs.ReadPlain.{Plain-read}
 use Rattle.rules.specs.Demand3.{written}
 use Rattle.rules.specs.Radio as radio
-use Rattle.rules.specs.Radio.{Link, happens, radio-log}
-use Rattle.rules.proofs.Supply.{numbering-lawful, sound-block, sound-so}
-use Rattle.rules.proofs.Plain.{right-plain}
-use Rattle.rules.proofs.RadioWellFormed.{happens-ok}
+use Rattle.rules.specs.Reading.{unread}
+use Rattle.rules.specs.ReadDemand3.{firsts, spares-lost}
+use Rattle.rules.specs.ReadRadio.{read-happens, radio-read-log}
+use Rattle.rules.proofs.Supply.{sound-block, sound-so}
+use Rattle.rules.proofs.ReadPlain.{right-read-plain}
 use Rattle.numbers.specs.Numbers.{numbersMeans, numbersBack, numbersKept, numbersFresh}
 use Rattle.numbers.specs.declared.Numbers.{Numbers}
 use Rattle.numbers.proofs.Range.{sound-fits}
@@ -60,7 +60,7 @@ use Rattle.demand3.specs.BenchForC.{byteSays}
 use Rattle.demand3.specs.Boxes as alone
 use Rattle.demand3.specs.Boxes.{Reach, through, kept-and-cut, cut, leaves, called}
 use Rattle.demand3.specs.BoxesForC.{Boxes, Event, at-console, at-controller, keepTold, sentTold, reportTold, buffer, consoleKeeps, controllerKeeps, consoleStarts, controllerStarts, consoleGoes, controllerGoes, after, numbersOf, start, consoleShows, controllerShows, shows, allShown, Honest, AllHonest, RecordOf, BoxesForCRight}
-use Rattle.demand3.proofs.Boxes.{Row, Ok, boxesOf, Kept, happens-kept, Moved, moved, console-kept-so, controller-kept-so, from-kept, from-ok, boxes-right}
+use Rattle.demand3.proofs.Boxes.{Row, Here, Ok, boxesOf, Kept, Moved, moved, next-ok, next-kept, console-kept-so, controller-kept-so, from-kept, from-ok, boxes-right}
 
 -- ## What the byte says
 
@@ -148,10 +148,10 @@ module _ (end : ℕ) (record-of : Numbers → NumberRecord) (ended : (n : Number
 
 -- ## A start after power loss
 
-console-starts : (s kept : List ℕ) (n : Numbers) → Holds 1 kept n → length s ≡ 36 → consoleStarts s kept ≡ consoleBytes (downedConsole (numbersKept (n .reserved) (n .block)))
+console-starts : (s kept : List ℕ) (n : Numbers) → Holds 1 kept n → length s ≡ 37 → consoleStarts s kept ≡ consoleBytes (downedConsole (numbersKept (n .reserved) (n .block)))
 unfolding started startRefusal if_then_else_
 console-starts s kept n h l =
-    (λ i. started 36 s (h i) (consoleBytes (downedConsole (numbersKept (h i .number) (h i .block))))) ∙ rw (eq-eqb (length s) 36 l)
+    (λ i. started 37 s (h i) (consoleBytes (downedConsole (numbersKept (h i .number) (h i .block))))) ∙ rw (eq-eqb (length s) 37 l)
 
 controller-starts : (s kept : List ℕ) (n : Numbers) → Holds 2 kept n → length s ≡ 23 → controllerStarts s kept ≡ controllerBytes (downedController (numbersKept (n .reserved) (n .block)))
 unfolding started startRefusal if_then_else_
@@ -185,7 +185,7 @@ abbrev controller-record : Numbers → NumberRecord
 controller-record n = number-record.Controller (record { 0 = n .reserved }) (n .block)
 
 module _ (c : Console) (typed : console-trips.Typed c) where
-  console-long : length (consoleBytes c) ≡ 36
+  console-long : length (consoleBytes c) ≡ 37
   unfolding consoleBytes bytesOf
   console-long = rw (typed .message)
 
@@ -194,7 +194,7 @@ module _ (c : Console) (typed : console-trips.Typed c) where
   console-tells d =
       record {
         told = told (d .outcome .report) (d .outcome .sent) (changed (c .numbers) (d .outcome .console .numbers));
-        state = if isRefusal (d .outcome .report) then consoleBytes c else state.written 36 (consoleBytes c) (consoleBytes (d .outcome .console));
+        state = if isRefusal (d .outcome .report) then consoleBytes c else state.written 37 (consoleBytes c) (consoleBytes (d .outcome .console));
         reply = d .reply;
       }
 
@@ -206,7 +206,7 @@ module _ (c : Console) (typed : console-trips.Typed c) where
         told = told (consoleAlone z l m p y .outcome .report) (consoleAlone z l m p y .outcome .sent) (changed (z .numbers) (consoleAlone z l m p y .outcome .console .numbers));
         state =
             if isRefusal (consoleAlone z l m p y .outcome .report) then consoleBytes c
-            else state.written 36 (consoleBytes c) (consoleBytes (consoleAlone z l m p y .outcome .console));
+            else state.written 37 (consoleBytes c) (consoleBytes (consoleAlone z l m p y .outcome .console));
         reply = consoleAlone z l m p y .reply;
       })
       (console-trips.console-read-back c typed)
@@ -230,10 +230,10 @@ module _ (c : Console) (typed : console-trips.Typed c) where
       record {
         sends = sends-told (d .outcome .report) (d .outcome .sent) keep e;
         says = says-told (d .outcome .report) (d .outcome .sent) keep e;
-        leaves = rw (e, eq-eqb (length (consoleBytes c)) 36 console-long);
+        leaves = rw (e, eq-eqb (length (consoleBytes c)) 37 console-long);
         keeps =
             λ kept k.
-            rw (e, eq-eqb (length (consoleBytes c)) 36 console-long, back, ok)
+            rw (e, eq-eqb (length (consoleBytes c)) 37 console-long, back, ok)
             (kept-holds 1 console-record (λ n. refl) (λ n. refl) (λ n. refl) (λ n. refl) (λ n. refl) (d .outcome .console .numbers) (console-read.ok-sound (d .outcome .console) ok) (c .numbers) kept _ (keeps-told (d .outcome .report) (d .outcome .sent) keep e) k);
       }
 
@@ -294,33 +294,33 @@ module _ (c : Controller) (typed : controller-trips.Typed c) where
 
 -- ## Where the rules' link stands
 
-module _ (k : Link rules.Numbers Row) (ok : Ok k) where
+module _ (k : Here) (ok : Ok (k .history)) where
   console-at : console-trips.Typed (boxesOf k .console)
-  console-at = console-left.fields-left (k .bench .console) (ok .console) .1
+  console-at = console-left.fields-left (k .history .bench .console) (k .ack) (ok .console) .1
 
   controller-at : controller-trips.Typed (boxesOf k .controller)
-  controller-at = controller-left.fields-left (k .bench .controller) (ok .controller) .1
+  controller-at = controller-left.fields-left (k .history .bench .controller) (ok .controller) .1
 
   console-well : consoleOk (boxesOf k .console) ≡ true
-  console-well = console-left.fields-left (k .bench .console) (ok .console) .0
+  console-well = console-left.fields-left (k .history .bench .console) (k .ack) (ok .console) .0
 
   controller-well : controllerOk (boxesOf k .controller) ≡ true
-  controller-well = controller-left.fields-left (k .bench .controller) (ok .controller) .0
+  controller-well = controller-left.fields-left (k .history .bench .controller) (ok .controller) .0
 
   -- the link that an event leads to
   pub record Next (e : alone.Event) : Type 0 where
-    pub link : Link rules.Numbers Row
-    pub fine : Ok link
-    pub kept : Kept link
+    pub link : Here
+    pub fine : Ok (link .history)
+    pub kept : Kept (link .history)
     pub is : alone.after (boxesOf k) e ≡ boxesOf link
 
-  next : Kept k → (e : alone.Event) → alone.Honest (boxesOf k) e → Next e
+  next : Kept (k .history) → (e : alone.Event) → alone.Honest (boxesOf k) e → Next e
   next kept e h = by (moved k ok kept e h)
     where
       by : Moved k e → Next e
       by (inl (n, s)) = record { link = k; fine = ok; kept = kept; is = s }
       by (inr (x, (n, s))) =
-          record { link = happens numbering isMessage k x .after; fine = happens-ok numbering isMessage numbering-lawful k x ok; kept = happens-kept k x kept; is = s }
+          record { link = read-happens numbering isMessage k x .after; fine = next-ok k x ok; kept = next-kept k x kept; is = s }
 
 -- ## Every event
 
@@ -333,21 +333,21 @@ pub record Holding (z : Boxes) (b : alone.Boxes) : Type 0 where
   pub console : Holds 1 (z .console-kept) (b .console-kept)
   pub controller : Holds 2 (z .controller-kept) (b .controller-kept)
 
-pub record Same (k : Link rules.Numbers Row) (kept-J kept-I : List ℕ) (e : Event) : Type 0 where
+pub record Same (k : Here) (kept-J kept-I : List ℕ) (e : Event) : Type 0 where
   pub goes : Goes (after (inC kept-J kept-I (boxesOf k)) e) (alone.after (boxesOf k) (plain e))
   pub holding : Holding (after (inC kept-J kept-I (boxesOf k)) e) (alone.after (boxesOf k) (plain e))
   pub shown : shows (inC kept-J kept-I (boxesOf k)) e ≡ alone.shows (boxesOf k) (plain e)
 
-module _ (k : Link rules.Numbers Row) (ok : Ok k) (kept : Kept k) where
+module _ (k : Here) (ok : Ok (k .history)) (kept : Kept (k .history)) where
   abbrev b : alone.Boxes
   b = boxesOf k
 
   -- what the box has kept is the console's
   console-kept-is : b .console-kept ≡ consoleKept (b .console)
-  console-kept-is = ap numbersBack (kept .console) ∙ sym (console-kept-so (k .bench .console) (ok .console .numbers))
+  console-kept-is = ap numbersBack (kept .console) ∙ sym (console-kept-so (k .history .bench .console) (k .ack) (ok .console .numbers))
 
   controller-kept-is : b .controller-kept ≡ controllerKept (b .controller)
-  controller-kept-is = ap numbersBack (kept .controller) ∙ sym (controller-kept-so (k .bench .controller) (ok .controller .numbers))
+  controller-kept-is = ap numbersBack (kept .controller) ∙ sym (controller-kept-so (k .history .bench .controller) (ok .controller .numbers))
 
   -- what is told and left, of any call
   console-is-told : (l : ℕ) (m p y : List ℕ) → alone.Honest b (alone.at-console through l m p y) → Console-told (b .console) (console-at k ok) (consoleAlone (b .console) l m p y)
@@ -546,10 +546,10 @@ module _ (k : Link rules.Numbers Row) (ok : Ok k) (kept : Kept k) where
 
 -- ## All of them
 
-abbrev All-same : Link rules.Numbers Row → List ℕ → List ℕ → List Event → Type 0
+abbrev All-same : Here → List ℕ → List ℕ → List Event → Type 0
 All-same k kept-J kept-I es = alone.AllHonest (boxesOf k) (map plain es) × (allShown (inC kept-J kept-I (boxesOf k)) es ≡ alone.allShown (boxesOf k) (map plain es))
 
-all-same : (k : Link rules.Numbers Row) → Ok k → Kept k → (kept-J kept-I : List ℕ) → Holding (inC kept-J kept-I (boxesOf k)) (boxesOf k) → (es : List Event) → AllHonest (inC kept-J kept-I (boxesOf k)) es → All-same k kept-J kept-I es
+all-same : (k : Here) → Ok (k .history) → Kept (k .history) → (kept-J kept-I : List ℕ) → Holding (inC kept-J kept-I (boxesOf k)) (boxesOf k) → (es : List Event) → AllHonest (inC kept-J kept-I (boxesOf k)) es → All-same k kept-J kept-I es
 unfolding allShown alone.allShown
 all-same k ok kept kept-J kept-I holds [] h = (tt, refl)
 all-same k ok kept kept-J kept-I holds (x ∷ es) h =
@@ -585,10 +585,10 @@ stored end r p =
     }
 
 module _ (j i : NumberRecord) (p : RecordOf 1 j) (q : RecordOf 2 i) (es : List Event) (honest : AllHonest (start j i) es) where
-  begun : All-same (radio.start (numbersMeans (numbersOf j)) (numbersMeans (numbersOf i))) (recordBytes j) (recordBytes i) es
+  begun : All-same (unread (radio.start (numbersMeans (numbersOf j)) (numbersMeans (numbersOf i)))) (recordBytes j) (recordBytes i) es
   unfolding bench.fresh
   begun =
-      all-same (radio.start (numbersMeans (numbersOf j)) (numbersMeans (numbersOf i)))
+      all-same (unread (radio.start (numbersMeans (numbersOf j)) (numbersMeans (numbersOf i))))
       (from-ok (numbersOf j) (numbersOf i) (stored 1 j p) (stored 2 i q)) (from-kept (numbersOf j) (numbersOf i) (stored 1 j p) (stored 2 i q))
       (recordBytes j) (recordBytes i)
       (record { console = record-holds 1 j (p .own) (p .fits) (p .good); controller = record-holds 2 i (q .own) (q .fits) (q .good) }) es honest
@@ -597,8 +597,14 @@ module _ (j i : NumberRecord) (p : RecordOf 1 j) (q : RecordOf 2 i) (es : List E
   unfolding bench.fresh
   boxes-for-c-right =
       let r = boxes-right (numbersOf j) (numbersOf i) (stored 1 j p) (stored 2 i q) (map plain es) (begun .0) in
-      record { happenings = r .happenings; right = r .right; own = r .own ∙ ap (λ (l : List (Option (log.Event Row))). written l []) (sym (begun .1)) }
+      record {
+        happenings = r .happenings;
+        right = r .right;
+        own = r .own ∙ ap (λ (l : List (Option (log.Event Row))). written (firsts false l) []) (sym (begun .1));
+        spare = ap (spares-lost false) (begun .1) ∙ r .spare;
+        history = r .history;
+      }
 
   -- in plain words
-  pub boxes-for-c-plain : Plain (radio-log numbering isMessage (numbersMeans (numbersOf j)) (numbersMeans (numbersOf i)) (boxes-for-c-right .happenings))
-  boxes-for-c-plain = right-plain (radio-log numbering isMessage (numbersMeans (numbersOf j)) (numbersMeans (numbersOf i)) (boxes-for-c-right .happenings)) (boxes-for-c-right .right)
+  pub boxes-for-c-plain : Plain-read (radio-read-log numbering isMessage (numbersMeans (numbersOf j)) (numbersMeans (numbersOf i)) (boxes-for-c-right .happenings))
+  boxes-for-c-plain = right-read-plain (radio-read-log numbering isMessage (numbersMeans (numbersOf j)) (numbersMeans (numbersOf i)) (boxes-for-c-right .happenings)) (boxes-for-c-right .right)

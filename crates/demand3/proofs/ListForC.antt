@@ -5,12 +5,10 @@ use contract.Lifetimes.{Lfts}
 use borrow.Fn.Kinds.{Dens, endedOf}
 use denote.Ref.{now}
 use denote.Triple.Clauses.{AtExit}
-use Rattle.rules.specs.Bench.{fresh}
 use Rattle.rules.specs.Demand3.{written}
-use Rattle.rules.specs.Supply.{fresh-numbers}
-use Rattle.rules.specs.Plain.{Plain}
-use Rattle.rules.proofs.Plain.{right-plain}
-use Rattle.bench.specs.Listed.{actionsIn, ListRight}
+use Rattle.rules.specs.ReadPlain.{Plain-read}
+use Rattle.rules.proofs.ReadPlain.{right-read-plain}
+use Rattle.bench.specs.Listed.{actionsIn, j₀, i₀, ListRight}
 use Rattle.bench.specs.Orders.{rowsOf}
 use Rattle.bench.proofs.Listed.{ran-right}
 use Rattle.boundary.proofs.lists.nooseless_run.Kinds as run-kinds
@@ -21,5 +19,5 @@ module _ (κs : Lfts 2) (a : Dens κs run-kinds.ps) (x : ℕ) (s : AtExit (ended
   list-right = ran-right (now (a .0)) (now (a .1 .0)) meets
 
   -- in plain words
-  pub list-plain : Plain (written (rowsOf [] (fresh (fresh-numbers 0) (fresh-numbers 0)) (actionsIn (now (a .0)) (now (a .1 .0)))) [])
-  list-plain = right-plain _ (list-right .orders .right)
+  pub list-plain : Plain-read (written (rowsOf j₀ i₀ (actionsIn (now (a .0)) (now (a .1 .0)))) [])
+  list-plain = right-read-plain _ (list-right .orders .right)

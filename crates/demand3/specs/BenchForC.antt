@@ -2,19 +2,22 @@
 -- nothing. `freshPut` and `stepPut` are the two entries' own promises, so that these calls are the entries' calls.
 use Prim.Native.Nat.{ℕ}
 use mathlib.Core.Path.{_≡_}
+use mathlib.Core.Bool.{true, false}
 use mathlib.Core.Option.{Option·map}
 use mathlib.Core.List.{List, [], _∷_, map}
 use lib.Dec.{eqb}
+use Rattle.ground.specs.Cell.{isMessage}
 use Rattle.ground.specs.Choice.{if_then_else_}
 use Rattle.wire.specs.declared.I.{I}
 use Rattle.wire.specs.declared.J.{J}
-use Rattle.rules.specs.Supply.{fresh-numbers}
-use Rattle.rules.specs.Bench.{fresh}
+use Rattle.rules.specs.Supply.{numbering, fresh-numbers}
 use Rattle.rules.specs.Log.{Right}
-use Rattle.rules.specs.Demand3.{written, unnumbered}
+use Rattle.rules.specs.Demand3.{written, log, unnumbered}
+use Rattle.rules.specs.ReadLog.{Right-read}
+use Rattle.rules.specs.ReadDemand3.{firsts, spares-lost}
 use Rattle.ends.specs.declared.Report.{Report}
 use Rattle.ends.specs.declared.Report.the-variants as report
-use Rattle.bench.specs.Orders.{shownBy, Rows, rowsOf}
+use Rattle.bench.specs.Orders.{shownBy, Rows, lettered, rowsOf}
 use Rattle.bench.specs.declared.Action.{Action}
 use Rattle.boundary.specs.Benches.{freshPut, stepPut}
 
@@ -57,8 +60,11 @@ callsShow (c ∷ l) (x ∷ xs) = shownBy (c .action) (byteSays (x .told)) (x .de
 abbrev pub actionsOf : List Call → List Action
 actionsOf l = map (λ (c : Call). c .action) l
 
--- the log of these actions, with the puts numbered, is right, and without the numbers its rows are what the calls show
+-- as request 2 words it: the log of these actions, with the puts numbered, is right; without the numbers its rows are what the calls show, the first
+-- answer after each put; and an A that is no put's answer tells lost. The history is right as document 01 words it
 pub record CallsRight (j : J) (i : I) (state out back : List ℕ) (l : List Call) : Type 0 where
   pub begun : freshPut j i state out back .told ≡ 0
-  pub right : Right (written (rowsOf [] (fresh (fresh-numbers (j .0)) (fresh-numbers (i .0))) (actionsOf l)) [])
-  pub own : map (Option·map unnumbered) (rowsOf [] (fresh (fresh-numbers (j .0)) (fresh-numbers (i .0))) (actionsOf l)) ≡ callsShow l (freshCalls j i state out back l)
+  pub right : Right-read (written (rowsOf j i (actionsOf l)) [])
+  pub own : map (Option·map unnumbered) (rowsOf j i (actionsOf l)) ≡ firsts false (callsShow l (freshCalls j i state out back l))
+  pub spare : spares-lost false (callsShow l (freshCalls j i state out back l)) ≡ true
+  pub history : Right (log numbering isMessage (fresh-numbers (j .0)) (fresh-numbers (i .0)) (lettered (actionsOf l)))

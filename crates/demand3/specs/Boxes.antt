@@ -15,6 +15,9 @@ use Rattle.rules.specs.Log as log
 use Rattle.rules.specs.Log.{Right}
 use Rattle.rules.specs.Demand3.{written, unnumbered}
 use Rattle.rules.specs.Radio.{Happening, radio-log}
+use Rattle.rules.specs.ReadLog.{Right-read}
+use Rattle.rules.specs.ReadDemand3.{firsts, spares-lost}
+use Rattle.rules.specs.ReadRadio.{radio-read-log}
 use Rattle.numbers.specs.Numbers.{numbersMeans, numbersKept}
 use Rattle.numbers.specs.declared.Numbers.{Numbers}
 use Rattle.ends_console.specs.Fields.{consoleWith, consoleKept, downedConsole}
@@ -127,7 +130,7 @@ after b (at-controller r l packet reply) = controllerGoes r (controllerAlone (b 
 abbrev pub start : Numbers → Numbers → Boxes
 start j i =
     record {
-      console = consoleWith j console-mode.Idle true spaces;
+      console = consoleWith j console-mode.Idle true false spaces;
       console-kept = j;
       controller = controllerWith i controller-mode.Idle true;
       controller-kept = i;
@@ -135,7 +138,7 @@ start j i =
       toConsole = [];
     }
 
--- ## What is shown: a put taken, a dose with its cells, an answer, an end gone down or come back
+-- ## What is shown: a put taken, a dose with its cells, what A tells, an end gone down or come back
 
 abbrev pub called : ℕ → List ℕ → Report → List ℕ → Option (log.Event (List ℕ))
 called l m report cells = shownBy (record { letter = l; place = 0; copies = 0; message = m }) report cells
@@ -176,9 +179,14 @@ abbrev pub AllHonest : Boxes → List Event → Type 0
 AllHonest b [] = Unit {0}
 AllHonest b (e ∷ es) = Honest b e × AllHonest (after b e) es
 
--- ## Demand 3: what the boxes show, with the orders numbered, is a right log of what may happen to the rules' ends over a radio
+-- ## Demand 3 as request 2 words it: what the boxes show, with the orders numbered, is a right log of what may happen to the rules' ends over a radio
 
 pub record BoxesRight (j i : Numbers) (es : List Event) : Type 0 where
   pub happenings : List (Happening (List ℕ))
-  pub right : Right (radio-log numbering isMessage (numbersMeans j) (numbersMeans i) happenings)
-  pub own : map unnumbered (radio-log numbering isMessage (numbersMeans j) (numbersMeans i) happenings) ≡ written (allShown (start j i) es) []
+  pub right : Right-read (radio-read-log numbering isMessage (numbersMeans j) (numbersMeans i) happenings)
+  -- the first answer after each put
+  pub own : map unnumbered (radio-read-log numbering isMessage (numbersMeans j) (numbersMeans i) happenings) ≡ written (firsts false (allShown (start j i) es)) []
+  -- an A that is no put's answer tells lost
+  pub spare : spares-lost false (allShown (start j i) es) ≡ true
+  -- the history, in which S answers as packets arrive, is right as document 01 words it
+  pub history : Right (radio-log numbering isMessage (numbersMeans j) (numbersMeans i) happenings)

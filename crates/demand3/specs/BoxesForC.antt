@@ -3,7 +3,7 @@
 -- calls. Assumes nothing.
 use Prim.Native.Nat.{ℕ, _+_, _*_, _/_, _%_, _<_, _^_}
 use mathlib.Core.Path.{_≡_}
-use mathlib.Core.Bool.{Bool, true}
+use mathlib.Core.Bool.{Bool, true, false}
 use mathlib.Core.Option.{Option, some}
 use mathlib.Core.List.{List, [], _∷_, map}
 use lib.ListN.{replicate}
@@ -19,6 +19,9 @@ use Rattle.rules.specs.Log as log
 use Rattle.rules.specs.Log.{Right}
 use Rattle.rules.specs.Demand3.{written, unnumbered}
 use Rattle.rules.specs.Radio.{Happening, radio-log}
+use Rattle.rules.specs.ReadLog.{Right-read}
+use Rattle.rules.specs.ReadDemand3.{firsts, spares-lost}
+use Rattle.rules.specs.ReadRadio.{radio-read-log}
 use Rattle.numbers.specs.Numbers.{numbersMeans, numbersKept}
 use Rattle.numbers.specs.declared.Numbers.{Numbers}
 use Rattle.ends_console.specs.Fields.{consoleOk, consoleWith}
@@ -36,7 +39,7 @@ use Rattle.demand3.specs.Boxes.{Reach, through, kept-and-cut, cut, leave
 
 -- ## The two boxes
 
--- each end's state, 36 and 23 bytes, its number record as it is kept, 16 bytes, or 12 until the first is kept, and every packet that ever left for
+-- each end's state, 37 and 23 bytes, its number record as it is kept, 16 bytes, or 12 until the first is kept, and every packet that ever left for
 -- the other
 pub record Boxes : Type 0 where
   pub console : List ℕ
@@ -82,7 +85,7 @@ controllerKeeps t kept =
 
 -- after power loss: down, from the kept record
 abbrev pub consoleStarts : List ℕ → List ℕ → List ℕ
-consoleStarts s kept = started 36 s (console.startAt kept) (console.downedBytes kept)
+consoleStarts s kept = started 37 s (console.startAt kept) (console.downedBytes kept)
 
 abbrev pub controllerStarts : List ℕ → List ℕ → List ℕ
 controllerStarts s kept = started 23 s (controller.startAt kept) (controller.downedBytes kept)
@@ -163,7 +166,7 @@ numbersOf r = numbersKept (numberOf (renewed r)) (blockOf (renewed r))
 abbrev pub start : NumberRecord → NumberRecord → Boxes
 start j i =
     record {
-      console = consoleBytes (consoleWith (numbersOf j) console-mode.Idle true spaces);
+      console = consoleBytes (consoleWith (numbersOf j) console-mode.Idle true false spaces);
       console-kept = recordBytes j;
       controller = controllerBytes (controllerWith (numbersOf i) controller-mode.Idle true);
       controller-kept = recordBytes i;
@@ -201,9 +204,14 @@ abbrev pub AllHonest : Boxes → List Event → Type 0
 AllHonest b [] = Unit {0}
 AllHonest b (e ∷ es) = Honest b e × AllHonest (after b e) es
 
--- ## Demand 3
+-- ## Demand 3 as request 2 words it
 
 pub record BoxesForCRight (j i : NumberRecord) (es : List Event) : Type 0 where
   pub happenings : List (Happening (List ℕ))
-  pub right : Right (radio-log numbering isMessage (numbersMeans (numbersOf j)) (numbersMeans (numbersOf i)) happenings)
-  pub own : map unnumbered (radio-log numbering isMessage (numbersMeans (numbersOf j)) (numbersMeans (numbersOf i)) happenings) ≡ written (allShown (start j i) es) []
+  pub right : Right-read (radio-read-log numbering isMessage (numbersMeans (numbersOf j)) (numbersMeans (numbersOf i)) happenings)
+  -- the first answer after each put
+  pub own : map unnumbered (radio-read-log numbering isMessage (numbersMeans (numbersOf j)) (numbersMeans (numbersOf i)) happenings) ≡ written (firsts false (allShown (start j i) es)) []
+  -- an A that is no put's answer tells lost
+  pub spare : spares-lost false (allShown (start j i) es) ≡ true
+  -- the history, in which S answers as packets arrive, is right as document 01 words it
+  pub history : Right (radio-log numbering isMessage (numbersMeans (numbersOf j)) (numbersMeans (numbersOf i)) happenings)

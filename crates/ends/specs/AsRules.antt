@@ -70,6 +70,14 @@ reportBack rules.answered-ok = report.Ok
 reportBack rules.answered-lost = report.Lost
 reportBack (rules.refused n) = report.Refused n
 
+-- and back, where the message stands beside
+abbrev pub reportMeans : Report → rules.Report Beside
+reportMeans report.Nothing = rules.nothing
+reportMeans report.Delivered = rules.delivered tt
+reportMeans report.Ok = rules.answered-ok
+reportMeans report.Lost = rules.answered-lost
+reportMeans (report.Refused n) = rules.refused n
+
 -- the number of a refusal, 0 with any other report
 abbrev pub numberIn : Report → ℕ
 numberIn report.Nothing = 0

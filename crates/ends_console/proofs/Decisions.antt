@@ -9,6 +9,7 @@ use lib.Dec.{eqb}
 use borrow.Author.Tests.{eq-eqb, ne-eqb, not-true, not-false}
 use Rattle.ground.specs.Choice.{if_then_else_}
 use Rattle.ground.specs.First.{first, refusal, applies}
+use Rattle.ground.proofs.Tests.{by-test}
 use Rattle.wire.specs.declared.J.{J}
 use Rattle.rules.specs.Offered.{offered}
 use Rattle.rules.specs.Ends as rules
@@ -129,6 +130,9 @@ module _ (m : Mode) (up good : Bool) (next : J) (p : ForConsole) where
   pub decides-back : {a : ConsoleAsk} {x : Decided} → a ≡ ask.ComeBack → ((n : J) (g : Bool) → x ≡ stepped m up g n rules.ConsoleAct.come-back) → x ≡ step-of a
   decides-back f h = rw f (h next good)
 
+  pub decides-tell : {a : ConsoleAsk} {x : Decided} → a ≡ ask.TellAck → ((n : J) (g : Bool) → x ≡ stepped m up g n rules.tell-ack) → x ≡ step-of a
+  decides-tell f h = rw f (h next good)
+
 module _ (m : Mode) (up : Bool) where
   pub take-4 : {x : Decided} (p : ForConsole) → not up ≡ true → x ≡ refusing 4 m up → (next : J) (good : Bool) → x ≡ stepped m up good next (rules.ConsoleAct.take (forConsole p))
   unfolding rules.console-rules refusal first applies if_then_else_
@@ -146,3 +150,18 @@ module _ (m : Mode) (up : Bool) where
   pub back-turns : up ≡ false → (next : J) (good : Bool) → record { report = report.Nothing; sent = for-controller.Nothing; numbers = Back; mode = Idle; up = true } ≡ stepped m up good next rules.ConsoleAct.come-back
   unfolding rules.console-step rules.console-rules refusal first applies if_then_else_ rules.console-acts rules.console-turn rules.end-after rules.numbers-after rules.up-after
   back-turns u next good = rw u
+
+  -- A
+  telling : (next : J) (good : Bool) → first (rules.down-4 up ∷ (6, rules.holding (mode m)) ∷ []) ≡ number m up good next rules.tell-ack
+  unfolding rules.console-rules refusal first applies if_then_else_
+  telling next good = by-test up (λ u. rw u) (λ u. rw u)
+
+  pub tell-refuses : {n : ℕ} {x : Decided} → n ≡ first (rules.down-4 up ∷ (6, rules.holding (mode m)) ∷ []) → (n ≡ 0 → ⊥) → x ≡ refusing n m up
+      → (next : J) (good : Bool) → x ≡ stepped m up good next rules.tell-ack
+  tell-refuses p z h next good = refuses-so m up good next rules.tell-ack (p ∙ telling next good) z h
+
+  pub tell-turns : {n : ℕ} {x : Decided} → n ≡ first (rules.down-4 up ∷ (6, rules.holding (mode m)) ∷ []) → n ≡ 0 → x ≡ staying m up for-controller.Nothing
+      → (next : J) (good : Bool) → x ≡ stepped m up good next rules.tell-ack
+  unfolding rules.console-acts rules.console-turn rules.end-after rules.numbers-after rules.up-after
+  tell-turns p z h next good =
+      does-so m up good next rules.tell-ack (sym (p ∙ telling next good) ∙ z) (h ∙ λ i. staying (same-mode m i) up for-controller.Nothing)

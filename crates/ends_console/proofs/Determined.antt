@@ -7,6 +7,12 @@ use Rattle.ends_console.proofs.turns.data_sent.Kinds as data-sent-kinds
 use Rattle.ends_console.proofs.turns.data_sent.Reads as data-sent
 use Rattle.ends_console.proofs.refusals.send_refusal.Kinds as send-refusal-kinds
 use Rattle.ends_console.proofs.refusals.send_refusal.Reads as send-refusal
+use Rattle.ends_console.proofs.refusals.ack_refusal.Kinds as ack-refusal-kinds
+use Rattle.ends_console.proofs.refusals.ack_refusal.Reads as ack-refusal
+use Rattle.ends_console.proofs.ack.ack_use.Kinds as ack-use-kinds
+use Rattle.ends_console.proofs.ack.ack_use.Reads as ack-use
+use Rattle.ends_console.proofs.ack.shows.Kinds as shows-kinds
+use Rattle.ends_console.proofs.ack.shows.Reads as shows
 use Rattle.ends_console.proofs.decides.decides.Kinds as decides-kinds
 use Rattle.ends_console.proofs.decides.decides.Reads as decides
 use Rattle.ends_console.proofs.acts.puts.Kinds as puts-kinds
@@ -36,6 +42,15 @@ data-sent-determined κs a x y s t p q = p ∙ sym q
 
 pub send-refusal-determined : Determined send-refusal-kinds.ps send-refusal-kinds.r send-refusal.Post
 send-refusal-determined κs a x y s t p q = p ∙ sym q
+
+pub ack-refusal-determined : Determined ack-refusal-kinds.ps ack-refusal-kinds.r ack-refusal.Post
+ack-refusal-determined κs a x y s t p q = p ∙ sym q
+
+pub ack-use-determined : Determined ack-use-kinds.ps ack-use-kinds.r ack-use.Post
+ack-use-determined κs a x y s t p q = p ∙ sym q
+
+pub shows-determined : Determined shows-kinds.ps shows-kinds.r shows.Post
+shows-determined κs a x y s t p q = p ∙ sym q
 
 pub decides-determined : Determined decides-kinds.ps decides-kinds.r decides.Post
 decides-determined κs a x y s t p q = p ∙ sym q

@@ -102,17 +102,17 @@ pub ok-sound : (c : Console) → consoleOk c ≡ true → Sound (c .numbers)
 unfolding consoleOk
 ok-sound c ok = and-left (numbering .sound (numbersMeans (c .numbers))) _ ok
 
-ok-holding : (u : Numbers) (j : J) (l : I) (m : List ℕ) (up : Bool) → consoleOk (record { numbers = u; held = true; message = m; j = j; last = l; up = up }) ≡ true
+ok-holding : (u : Numbers) (j : J) (l : I) (m : List ℕ) (up ack : Bool) → consoleOk (record { numbers = u; held = true; message = m; j = j; last = l; up = up; ack = ack }) ≡ true
     → (isMessage m ≡ true) × (one-set u j l ≡ true)
 unfolding consoleOk if_then_else_
-ok-holding u j l m up ok =
+ok-holding u j l m up ack ok =
     let rest = and-right (numbering .sound (numbersMeans u)) (isMessage m && one-set u j l) ok in
     (and-left (isMessage m) (one-set u j l) rest, and-right (isMessage m) (one-set u j l) rest)
 
-ok-free : (u : Numbers) (j : J) (l : I) (m : List ℕ) (up : Bool) → consoleOk (record { numbers = u; held = false; message = m; j = j; last = l; up = up }) ≡ true
+ok-free : (u : Numbers) (j : J) (l : I) (m : List ℕ) (up ack : Bool) → consoleOk (record { numbers = u; held = false; message = m; j = j; last = l; up = up; ack = ack }) ≡ true
     → (eqb (j .0) 0 ≡ true) × (eqb (l .0) 0 ≡ true) × (filled 0x20 m ≡ true)
 unfolding consoleOk if_then_else_
-ok-free u j l m up ok =
+ok-free u j l m up ack ok =
     let z = eqb (j .0) 0 && eqb (l .0) 0 in
     let f = filled 0x20 m in
     let all = and-right (numbering .sound (numbersMeans u)) (z && f) ok in (
@@ -136,46 +136,46 @@ above-0 n f = omega (arith, eqb-false n 0 f)
 
 -- by the mode that the fields stand for
 pub by-mode : (P : Console → Type 0)
-    → ((u : Numbers) (up : Bool) → Sound u → P (consoleWith u Idle up spaces))
-    → ((u : Numbers) (j : J) (up : Bool) (m : List ℕ) → Sound u → 0 < j .0 → its-own u j ≡ true → isMessage m ≡ true → P (consoleWith u (NeedI j) up m))
-    → ((u : Numbers) (l : I) (up : Bool) (m : List ℕ) → Sound u → 0 < l .0 → isMessage m ≡ true → P (consoleWith u (Send l) up m))
+    → ((u : Numbers) (up ack : Bool) → Sound u → P (consoleWith u Idle up ack spaces))
+    → ((u : Numbers) (j : J) (up ack : Bool) (m : List ℕ) → Sound u → 0 < j .0 → its-own u j ≡ true → isMessage m ≡ true → P (consoleWith u (NeedI j) up ack m))
+    → ((u : Numbers) (l : I) (up ack : Bool) (m : List ℕ) → Sound u → 0 < l .0 → isMessage m ≡ true → P (consoleWith u (Send l) up ack m))
     → (c : Console) → length (c .message) ≡ 16 → consoleOk c ≡ true → P c
-by-mode P idle need send c long ok = parts (c .numbers) (c .held) (c .message) (c .j) (c .last) (c .up) (ok-sound c ok) long ok
+by-mode P idle need send c long ok = parts (c .numbers) (c .held) (c .message) (c .j) (c .last) (c .up) (c .ack) (ok-sound c ok) long ok
   where
-    parts : (u : Numbers) (held : Bool) (m : List ℕ) (j : J) (l : I) (up : Bool) → Sound u → length m ≡ 16
-        → consoleOk (record { numbers = u; held = held; message = m; j = j; last = l; up = up }) ≡ true
-        → P (record { numbers = u; held = held; message = m; j = j; last = l; up = up })
-    parts u true m j l up s long ok =
-        let o = ok-holding u j l m up ok in
+    parts : (u : Numbers) (held : Bool) (m : List ℕ) (j : J) (l : I) (up ack : Bool) → Sound u → length m ≡ 16
+        → consoleOk (record { numbers = u; held = held; message = m; j = j; last = l; up = up; ack = ack }) ≡ true
+        → P (record { numbers = u; held = held; message = m; j = j; last = l; up = up; ack = ack })
+    parts u true m j l up ack s long ok =
+        let o = ok-holding u j l m up ack ok in
         by-test (eqb (j .0) 0)
         (λ t.
-        subst (λ (n : ℕ). P (record { numbers = u; held = true; message = m; j = record { 0 = n }; last = l; up = up })) (sym (eqb-true (j .0) 0 t))
-        (send u l up m s (above-0 (l .0) (one-last u j l (o .1) t)) (o .0)))
+        subst (λ (n : ℕ). P (record { numbers = u; held = true; message = m; j = record { 0 = n }; last = l; up = up; ack = ack })) (sym (eqb-true (j .0) 0 t))
+        (send u l up ack m s (above-0 (l .0) (one-last u j l (o .1) t)) (o .0)))
         (λ f.
-        subst (λ (n : ℕ). P (record { numbers = u; held = true; message = m; j = j; last = record { 0 = n }; up = up })) (sym (eqb-true (l .0) 0 (one-j u j l (o .1) f .0)))
-        (need u j up m s (above-0 (j .0) f) (one-j u j l (o .1) f .1) (o .0)))
-    parts u false m j l up s long ok =
-        let o = ok-free u j l m up ok in
+        subst (λ (n : ℕ). P (record { numbers = u; held = true; message = m; j = j; last = record { 0 = n }; up = up; ack = ack })) (sym (eqb-true (l .0) 0 (one-j u j l (o .1) f .0)))
+        (need u j up ack m s (above-0 (j .0) f) (one-j u j l (o .1) f .1) (o .0)))
+    parts u false m j l up ack s long ok =
+        let o = ok-free u j l m up ack ok in
         let same : m ≡ spaces = filled-is 0x20 m (o .2) ∙ ap (λ (n : ℕ). replicate n 0x20) long in
-        subst (λ (n : ℕ). P (record { numbers = u; held = false; message = m; j = record { 0 = n }; last = l; up = up })) (sym (eqb-true (j .0) 0 (o .0)))
-        (subst (λ (n : ℕ). P (record { numbers = u; held = false; message = m; j = record { 0 = 0 }; last = record { 0 = n }; up = up })) (sym (eqb-true (l .0) 0 (o .1)))
-        (subst (λ (x : List ℕ). P (record { numbers = u; held = false; message = x; j = record { 0 = 0 }; last = record { 0 = 0 }; up = up })) (sym same) (idle u up s)))
+        subst (λ (n : ℕ). P (record { numbers = u; held = false; message = m; j = record { 0 = n }; last = l; up = up; ack = ack })) (sym (eqb-true (j .0) 0 (o .0)))
+        (subst (λ (n : ℕ). P (record { numbers = u; held = false; message = m; j = record { 0 = 0 }; last = record { 0 = n }; up = up; ack = ack })) (sym (eqb-true (l .0) 0 (o .1)))
+        (subst (λ (x : List ℕ). P (record { numbers = u; held = false; message = x; j = record { 0 = 0 }; last = record { 0 = 0 }; up = up; ack = ack })) (sym same) (idle u up ack s)))
 
 -- fields that are read and written back are the same
 abbrev Same : Console → Type 0
-Same c = consoleFields (consoleEnd c) (c .message) ≡ c
+Same c = consoleFields (consoleEnd c) (c .ack) (c .message) ≡ c
 
-need-same : (u : Numbers) (j : J) (up : Bool) (m : List ℕ) → Sound u → 0 < j .0 → its-own u j ≡ true → isMessage m ≡ true → Same (consoleWith u (NeedI j) up m)
+need-same : (u : Numbers) (j : J) (up ack : Bool) (m : List ℕ) → Sound u → 0 < j .0 → its-own u j ≡ true → isMessage m ≡ true → Same (consoleWith u (NeedI j) up ack m)
 unfolding consoleMode if_then_else_
-need-same u j up m s h l g = rw (ne-eqb (j .0) 0 (omega arith))
+need-same u j up ack m s h l g = rw (ne-eqb (j .0) 0 (omega arith))
 
-send-same : (u : Numbers) (l : I) (up : Bool) (m : List ℕ) → Sound u → 0 < l .0 → isMessage m ≡ true → Same (consoleWith u (Send l) up m)
+send-same : (u : Numbers) (l : I) (up ack : Bool) (m : List ℕ) → Sound u → 0 < l .0 → isMessage m ≡ true → Same (consoleWith u (Send l) up ack m)
 unfolding consoleMode if_then_else_
-send-same u l up m s h g = refl
+send-same u l up ack m s h g = refl
 
-idle-same : (u : Numbers) (up : Bool) → Sound u → Same (consoleWith u Idle up spaces)
+idle-same : (u : Numbers) (up ack : Bool) → Sound u → Same (consoleWith u Idle up ack spaces)
 unfolding consoleMode if_then_else_
-idle-same u up s = refl
+idle-same u up ack s = refl
 
 pub fields-back : (c : Console) → length (c .message) ≡ 16 → consoleOk c ≡ true → Same c
 fields-back c long ok = by-mode Same idle-same need-same send-same c long ok
@@ -198,6 +198,6 @@ unfolding consoleRead if_then_else_
 numbered c f = (f, ap consoleReadRefusal f ∙ by-test (consoleOk c) (λ t. rw t) (λ f. rw f))
 
 -- an idle console whose numbers are sound is well formed
-pub idle-ok : (u : Numbers) (up : Bool) → Sound u → consoleOk (consoleWith u Idle up spaces) ≡ true
+pub idle-ok : (u : Numbers) (up ack : Bool) → Sound u → consoleOk (consoleWith u Idle up ack spaces) ≡ true
 unfolding consoleOk filled if_then_else_
-idle-ok u up s = rw s
+idle-ok u up ack s = rw s

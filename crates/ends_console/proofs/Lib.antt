@@ -6,7 +6,9 @@ pub mod FieldsRead
 pub mod MessageBeside
 pub mod PacketTaken
 pub mod PutRefused
+pub mod ShownReport
 pub mod WellFormed
 pub mod Wrong
+pub mod WrongAck
 pub mod WrongDecisions
 pub mod WrongEach

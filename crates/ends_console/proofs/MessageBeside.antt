@@ -39,6 +39,9 @@ module _ {S : Type 0} (U : Supply S) where
   same-rules u k up h (rules.ConsoleAct.take p) m = refl
   same-rules u k up h rules.ConsoleAct.go-down m = refl
   same-rules u k up h rules.ConsoleAct.come-back m = refl
+  same-rules u rules.ConsoleMode.idle up h rules.tell-ack m = refl
+  same-rules u (rules.in-needI j y) up h rules.tell-ack m = refl
+  same-rules u (rules.in-send l y) up h rules.tell-ack m = refl
 
   pub same-refusal : (e : rules.Console S Beside) (h : List ℕ) (a : rules.ConsoleAct Beside) (m : List ℕ) → refusal (rules.console-rules U isMessage (in-console (λ _. h) e) (in-console-act (λ _. m) a)) ≡ refusalOf e a m
   same-refusal e h a m = ap refusal (same-rules (e .numbers) (e .mode) (e .up) h a m)
@@ -67,6 +70,7 @@ module _ {S : Type 0} (U : Supply S) where
   acts-kept e h (rules.ConsoleAct.take p) m z = nat-console-acts (λ _. h) U e (rules.ConsoleAct.take p)
   acts-kept e h rules.ConsoleAct.go-down m z = nat-console-acts (λ _. h) U e rules.ConsoleAct.go-down
   acts-kept e h rules.ConsoleAct.come-back m z = nat-console-acts (λ _. h) U e rules.ConsoleAct.come-back
+  acts-kept e h rules.tell-ack m z = nat-console-acts (λ _. h) U e rules.tell-ack
 
   pub step-done : (e : rules.Console S Beside) (h : List ℕ) (a : rules.ConsoleAct Beside) (m : List ℕ) → refusalOf e a m ≡ 0 → stepped e h a m ≡ in-console-acted (λ _. kept a m h) (rules.console-acts U e a)
   unfolding rules.console-step if_then_else_

@@ -29,7 +29,7 @@ row = replicate 16 0x41
 
 abbrev console-fields : ℕ → Bool → List ℕ → ℕ → ℕ → Bool → Console
 console-fields used held m j last up =
-    record { numbers = numbersFresh used; held = held; message = m; j = record { 0 = j }; last = record { 0 = last }; up = up }
+    record { numbers = numbersFresh used; held = held; message = m; j = record { 0 = j }; last = record { 0 = last }; up = up; ack = false }
 
 abbrev idle-console : ℕ → console.End
 idle-console used = record { numbers = numbersFresh used; mode = console-mode.Idle; up = true }
@@ -50,11 +50,11 @@ pub takes-a-held-0x7F : RulesOut read-console-kinds.ps read-console-kinds.r read
 unfolding consoleOk isMessage cells filled if_then_else_
 takes-a-held-0x7F κs a x s e w p = unequal (sym w ∙ p .1 ∙ ap (λ c. endRefusal (consoleOk c)) e) refl
 
-pub keeps-the-message-when-idle : RulesOut console-of-kinds.ps console-of-kinds.r console-of.Post (λ κs a. (a .0 ≡ idle-console 1) × (a .1 .0 ≡ row)) (λ κs a x s. x .message ≡ a .1 .0)
-keeps-the-message-when-idle κs a x s e w p = unequal (ap (λ (m : List ℕ). getD m 0 0) (sym (e .1) ∙ sym w ∙ ap (λ (c : Console). c .message) (p ∙ (λ i. consoleFields (e .0 i) (e .1 i))))) refl
+pub keeps-the-message-when-idle : RulesOut console-of-kinds.ps console-of-kinds.r console-of.Post (λ κs a. (a .0 ≡ idle-console 1) × (a .1 .1 .0 ≡ row)) (λ κs a x s. x .message ≡ a .1 .1 .0)
+keeps-the-message-when-idle κs a x s e w p = unequal (ap (λ (m : List ℕ). getD m 0 0) (sym (e .1) ∙ sym w ∙ ap (λ (c : Console). c .message) (p ∙ (λ i. consoleFields (e .0 i) (a .1 .0) (e .1 i))))) refl
 
-pub leaves-j-in-send : RulesOut console-of-kinds.ps console-of-kinds.r console-of.Post (λ κs a. (a .0 ≡ record { numbers = numbersFresh 1; mode = console-mode.Send (record { 0 = 5 }); up = true }) × (a .1 .0 ≡ row)) (λ κs a x s. x .j .0 ≡ 1)
-leaves-j-in-send κs a x s e w p = unequal (sym w ∙ ap (λ (c : Console). c .j .0) (p ∙ (λ i. consoleFields (e .0 i) (e .1 i)))) refl
+pub leaves-j-in-send : RulesOut console-of-kinds.ps console-of-kinds.r console-of.Post (λ κs a. (a .0 ≡ record { numbers = numbersFresh 1; mode = console-mode.Send (record { 0 = 5 }); up = true }) × (a .1 .1 .0 ≡ row)) (λ κs a x s. x .j .0 ≡ 1)
+leaves-j-in-send κs a x s e w p = unequal (sym w ∙ ap (λ (c : Console). c .j .0) (p ∙ (λ i. consoleFields (e .0 i) (a .1 .0) (e .1 i)))) refl
 
 pub fresh-console-starts-down : RulesOut fresh-console-kinds.ps fresh-console-kinds.r fresh-console.Post (λ κs a. a .0 ≡ record { 0 = 1 }) (λ κs a x s. x .up ≡ false)
 fresh-console-starts-down κs a x s e w p = false≢true (sym w ∙ ap (λ (c : Console). c .up) (p ∙ ap freshConsole e))

@@ -53,6 +53,7 @@ askedTo ask.SendData p = rules.send-data
 askedTo ask.Take p = rules.ConsoleAct.take (forConsole p)
 askedTo ask.GoDown p = rules.ConsoleAct.go-down
 askedTo ask.ComeBack p = rules.ConsoleAct.come-back
+askedTo ask.TellAck p = rules.tell-ack
 
 abbrev pub decided : rules.ConsoleActed Offer Beside → Decided
 decided d =

@@ -18,7 +18,7 @@ use Rattle.ends_console.specs.declared.fields.ConsoleRead.{ConsoleRead}
 use Rattle.ends_console.specs.declared.fields.ConsoleRead.the-variants as console-read
 
 -- its numbers are sound: last used at most reserved, a block of 1 to 1,024. With a message held exactly one of j and last is not 0; with none both are 0 and the message
--- is 16 spaces. j is one of its own numbers
+-- is 16 spaces. j is one of its own numbers. Any ack is well formed
 unfoldable pub consoleOk : Console → Bool
 consoleOk c =
     numbering .sound (numbersMeans (c .numbers))
@@ -42,21 +42,24 @@ abbrev pub consoleReadRefusal : ConsoleRead → ℕ
 consoleReadRefusal console-read.IllFormed = 2
 consoleReadRefusal (console-read.Is e) = 0
 
-abbrev pub consoleWith : Numbers → Mode → Bool → List ℕ → Console
-consoleWith numbers Mode.Idle up m =
-    record { numbers = numbers; held = false; message = spaces; j = record { 0 = 0 }; last = record { 0 = 0 }; up = up }
-consoleWith numbers (NeedI j) up m = record { numbers = numbers; held = true; message = m; j = j; last = record { 0 = 0 }; up = up }
-consoleWith numbers (Send last) up m = record { numbers = numbers; held = true; message = m; j = record { 0 = 0 }; last = last; up = up }
+abbrev pub consoleWith : Numbers → Mode → Bool → Bool → List ℕ → Console
+consoleWith numbers Mode.Idle up ack m =
+    record { numbers = numbers; held = false; message = spaces; j = record { 0 = 0 }; last = record { 0 = 0 }; up = up; ack = ack }
+consoleWith numbers (NeedI j) up ack m =
+    record { numbers = numbers; held = true; message = m; j = j; last = record { 0 = 0 }; up = up; ack = ack }
+consoleWith numbers (Send last) up ack m =
+    record { numbers = numbers; held = true; message = m; j = record { 0 = 0 }; last = last; up = up; ack = ack }
 
-abbrev pub consoleFields : End → List ℕ → Console
-consoleFields e m = consoleWith (e .numbers) (e .mode) (e .up) m
+abbrev pub consoleFields : End → Bool → List ℕ → Console
+consoleFields e ack m = consoleWith (e .numbers) (e .mode) (e .up) ack m
 
 -- its numbers as its number record holds them, which a box keeps through a power loss
 abbrev pub consoleKept : Console → Numbers
 consoleKept c = numbersKept (c .numbers .reserved) (c .numbers .block)
 
+-- at first and after power loss the ack is lost
 abbrev pub freshConsole : J → Console
-freshConsole used = consoleWith (numbersFresh (used .0)) Mode.Idle true spaces
+freshConsole used = consoleWith (numbersFresh (used .0)) Mode.Idle true false spaces
 
 abbrev pub downedConsole : Numbers → Console
-downedConsole kept = consoleWith kept Mode.Idle false spaces
+downedConsole kept = consoleWith kept Mode.Idle false false spaces

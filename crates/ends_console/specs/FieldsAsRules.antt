@@ -5,6 +5,7 @@ use Rattle.ground.specs.Cell.{spaces}
 use Rattle.rules.specs.Ends as rules
 use Rattle.rules.specs.Supply.{numbering, Numbers}
 use Rattle.rules.specs.Relabel.{in-console, in-console-acted}
+use Rattle.rules.specs.Reading.{Reading, reading}
 use Rattle.numbers.specs.Numbers.{numbersBack}
 use Rattle.ends.specs.AsRules.{Beside}
 use Rattle.ends_console.specs.AsRules as console
@@ -17,13 +18,17 @@ use Rattle.ends_console.specs.declared.fields.Console.{Console}
 abbrev pub consoleMeans : Console → rules.Console Numbers (List ℕ)
 consoleMeans c = in-console (λ _. c .message) (console.end (consoleEnd c))
 
-abbrev pub consoleBack : rules.Console Numbers (List ℕ) → Console
-consoleBack e = fields (e .mode)
+-- with the ack beside it
+abbrev pub consoleReads : Console → Reading (rules.Console Numbers (List ℕ))
+consoleReads c = reading (consoleMeans c) (c .ack)
+
+abbrev pub consoleBack : Reading (rules.Console Numbers (List ℕ)) → Console
+consoleBack r = fields (r .history .mode)
   where
     fields : rules.ConsoleMode (List ℕ) → Console
-    fields rules.ConsoleMode.idle = consoleWith (numbersBack (e .numbers)) mode.Idle (e .up) spaces
-    fields (rules.in-needI j m) = consoleWith (numbersBack (e .numbers)) (mode.NeedI (record { 0 = j })) (e .up) m
-    fields (rules.in-send last m) = consoleWith (numbersBack (e .numbers)) (mode.Send (record { 0 = last })) (e .up) m
+    fields rules.ConsoleMode.idle = consoleWith (numbersBack (r .history .numbers)) mode.Idle (r .history .up) (r .ack) spaces
+    fields (rules.in-needI j m) = consoleWith (numbersBack (r .history .numbers)) (mode.NeedI (record { 0 = j })) (r .history .up) (r .ack) m
+    fields (rules.in-send last m) = consoleWith (numbersBack (r .history .numbers)) (mode.Send (record { 0 = last })) (r .history .up) (r .ack) m
 
 -- a put's message is kept, else the one that is held
 abbrev pub kept : rules.ConsoleAct Beside → List ℕ → List ℕ → List ℕ
@@ -33,6 +38,7 @@ kept rules.send-data m held = held
 kept (rules.ConsoleAct.take p) m held = held
 kept rules.ConsoleAct.go-down m held = held
 kept rules.ConsoleAct.come-back m held = held
+kept rules.tell-ack m held = held
 
 -- what an act that is not refused comes to, with the message that is held before it and the one that is put
 abbrev pub consoleActed : End → List ℕ → rules.ConsoleAct Beside → List ℕ → rules.ConsoleActed Numbers (List ℕ)

@@ -1,3 +1,4 @@
+pub mod Ack
 pub mod AsRules
 pub mod Fields
 pub mod FieldsAsRules

@@ -1,6 +1,7 @@
 // What a console decides that is asked: it refuses, or takes its turn. It knows no tables and not where numbers come from.
 use crate::Mode;
 use crate::Turn;
+use crate::refusals::ack_refusal;
 use crate::refusals::put_refusal;
 use crate::refusals::send_refusal;
 use crate::turns::data_sent;
@@ -16,7 +17,7 @@ use wire::J;
 ghost use mathlib.Core.Path.{_≡_};
 ghost use mathlib.Core.Bool.{Bool};
 ghost use Rattle.rules.specs.Offered.{offered};
-ghost use Rattle.rules.specs.Ends.{console-step, put, ConsoleAct};
+ghost use Rattle.rules.specs.Ends.{console-step, put, tell-ack, ConsoleAct};
 ghost use Rattle.ends.specs.AsRules.{tested, forConsole};
 ghost use Rattle.ends_console.specs.AsRules.{onOffer, askedTo, decided, sends};
 
@@ -114,6 +115,17 @@ fn comes_back(mode: Mode, up: bool) -> Decided
     }
 }
 
+// A. What it tells is not decided here.
+fn tells_one(mode: Mode, up: bool) -> Decided
+    ensures { λ r. ⌜ ((next : J) (good : Bool) → r ≡ decided (console-step offered (tested good) (onOffer mode up next) tell-ack)) ⌝ }
+{
+    let n = ack_refusal(mode, up);
+    if n != 0 {
+        return refused(n, mode, up);
+    }
+    stays(mode, up, ForController::Nothing)
+}
+
 // `came` is the packet in, `good` says that the message put is 16 cells, `next` is the number on offer, 0 for none.
 pub fn decides(
     mode: Mode,
@@ -132,5 +144,6 @@ pub fn decides(
         ConsoleAsk::Take => takes_one(mode, up, came),
         ConsoleAsk::GoDown => stays(mode, false, ForController::Nothing),
         ConsoleAsk::ComeBack => comes_back(mode, up),
+        ConsoleAsk::TellAck => tells_one(mode, up),
     }
 }

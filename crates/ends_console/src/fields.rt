@@ -20,6 +20,7 @@ pub struct Console {
     pub j: J,
     pub last: I,
     pub up: bool,
+    pub ack: bool, // true is OK, false is lost
 }
 
 pub enum ConsoleRead {
@@ -95,9 +96,9 @@ pub fn read_console(c: Console) -> ConsoleRead
     }
 }
 
-// The fields of an end that holds `message`, if it holds one.
-pub fn console_of(e: End, message: [u8; 16]) -> Console
-    ensures { λ r. ⌜ r ≡ consoleFields e message ⌝ }
+// The fields of an end that holds `message`, if it holds one, with its ack.
+pub fn console_of(e: End, ack: bool, message: [u8; 16]) -> Console
+    ensures { λ r. ⌜ r ≡ consoleFields e ack message ⌝ }
 {
     let numbers = e.numbers;
     let up = e.up;
@@ -110,6 +111,7 @@ pub fn console_of(e: End, message: [u8; 16]) -> Console
             j: J(0),
             last: I(0),
             up,
+            ack,
         },
         Mode::NeedI(j) => Console {
             numbers,
@@ -118,6 +120,7 @@ pub fn console_of(e: End, message: [u8; 16]) -> Console
             j,
             last: I(0),
             up,
+            ack,
         },
         Mode::Send(last) => Console {
             numbers,
@@ -126,11 +129,12 @@ pub fn console_of(e: End, message: [u8; 16]) -> Console
             j: J(0),
             last,
             up,
+            ack,
         },
     }
 }
 
-// Up and idle.
+// Up and idle; the ack is lost at first.
 pub fn fresh_console(used: J) -> Console
     ensures { λ r. ⌜ r ≡ freshConsole used ⌝ }
 {
@@ -141,10 +145,11 @@ pub fn fresh_console(used: J) -> Console
         j: J(0),
         last: I(0),
         up: true,
+        ack: false,
     }
 }
 
-// After power loss: down, with the numbers of its number record; V brings it back.
+// After power loss: down, with the numbers of its number record, and the ack lost; V brings it back.
 pub fn downed_console(kept: Numbers) -> Console
     ensures { λ r. ⌜ r ≡ downedConsole kept ⌝ }
 {
@@ -155,5 +160,6 @@ pub fn downed_console(kept: Numbers) -> Console
         j: J(0),
         last: I(0),
         up: false,
+        ack: false,
     }
 }

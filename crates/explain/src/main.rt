@@ -1,5 +1,6 @@
-// The list program for a person: after each record's line the sentence of a refusal, and how both ends and both channels stand. All
+// The list program for a person: after each record's line the sentence of a refusal or of an answer, and how both ends and both channels stand. All
 // that it adds is indented.
+mod answers;
 mod refusals;
 mod standing;
 mod text;
@@ -56,6 +57,7 @@ fn turn(b: Bench, part: &[u8], line: &[u8], out: &mut [u8], back: &mut [u8]) -> 
     let after = outcome.bench;
     text::say(line);
     refusals::print(report);
+    answers::print(report);
     standing::print(after, out, back);
     after
 }

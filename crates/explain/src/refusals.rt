@@ -1,4 +1,4 @@
-// The sentences of document 01's table of refusals; 14 is said of both versions of a number record too.
+// The sentences of document 01's table of refusals, with A in 4 and 6; 14 is said of both versions of a number record too.
 use crate::text::say;
 use ends::Report;
 
@@ -7,9 +7,9 @@ fn sentence(n: u8) {
         1 => say(b"01: list record not well formed, or a letter that is no action here"),
         2 => say(b"02: bench or end not well formed, or a table of another length"),
         3 => say(b"03: place not below the count"),
-        4 => say(b"04: P Q D S with the console down, O K R with the controller down"),
+        4 => say(b"04: P Q D S A with the console down, O K R with the controller down"),
         5 => say(b"05: V or Y with that end up"),
-        6 => say(b"06: P with a message held, or Q D O K in another mode"),
+        6 => say(b"06: P or A with a message held, or Q D O K in another mode"),
         7 => say(b"07: R of data or done whose I is above the controller's last used"),
         8 => say(b"08: P with J numbers spent"),
         9 => say(b"09: copies to be added exceed the free places of the target channel"),

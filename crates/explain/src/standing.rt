@@ -35,7 +35,17 @@ fn print_controller_mode(mode: ends_controller::Mode) {
     }
 }
 
+// What arrived for the order before, until A tells it.
+fn print_ack(ack: bool) {
+    if ack {
+        say(b", ack OK")
+    } else {
+        say(b", ack lost")
+    }
+}
+
 fn print_held(c: Console) {
+    print_ack(c.ack);
     if c.held {
         let message = c.message;
         say(b", holds \"");

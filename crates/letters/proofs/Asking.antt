@@ -15,6 +15,7 @@ asks-back (rules.the-console rules.to-send-data) = refl
 asks-back (rules.the-console rules.ConsoleAsk.to-take) = refl
 asks-back (rules.the-console rules.ConsoleAsk.to-go-down) = refl
 asks-back (rules.the-console rules.ConsoleAsk.to-come-back) = refl
+asks-back (rules.the-console rules.to-tell-ack) = refl
 asks-back (rules.the-controller rules.to-send-offer) = refl
 asks-back (rules.the-controller rules.to-send-ok) = refl
 asks-back (rules.the-controller rules.ControllerAsk.to-take) = refl
@@ -53,6 +54,7 @@ letter-again rules.X-down = refl
 letter-again rules.Y-back = refl
 letter-again rules.L-lose = refl
 letter-again rules.M-lose = refl
+letter-again rules.A-ack = refl
 
 pub found-lined : {line : Line} (o : Option rules.Letter) → foundOf o ≡ found.Line line → (o ≡ some (letterOf line)) × Lined line
 unfolding Lined

@@ -29,7 +29,7 @@ line-of (l ∷ ls) (suc k) d h = line-of ls k d (le-of-suc-le-suc h)
 abbrev pub no-line : Line
 no-line = record { byte = 0; asks = asked.Console console.Put; takes = takes.Nothing; place = false; copies = false; message = false }
 
-pub at-line : (k : ℕ) → k < 13 → found.Line (getD (map lineOf letters) k no-line) ≡ foundAt k
+pub at-line : (k : ℕ) → k < 14 → found.Line (getD (map lineOf letters) k no-line) ≡ foundAt k
 unfolding letters foundAt
 at-line k h = line-of letters k no-line h
 
@@ -44,11 +44,11 @@ numbered (some l) e = (e, ap foundRefusal e)
 pub keyed : {b k : ℕ} {r x : Found} → b ≡ k → r ≡ x → x ≡ foundOf (letter k) → Numbered r (letter b)
 keyed {b} e f g = numbered (letter b) (f ∙ g ∙ ap (λ n. foundOf (letter n)) (sym e))
 
--- a byte that is none of the thirteen
+-- a byte that is none of the fourteen
 pub no-letter : (b : ℕ) → (b ≡ 0x50 → ⊥) → (b ≡ 0x51 → ⊥) → (b ≡ 0x44 → ⊥) → (b ≡ 0x53 → ⊥) → (b ≡ 0x43 → ⊥) → (b ≡ 0x56 → ⊥) → (b ≡ 0x4F → ⊥) → (b ≡ 0x4B → ⊥)
-    → (b ≡ 0x52 → ⊥) → (b ≡ 0x58 → ⊥) → (b ≡ 0x59 → ⊥) → (b ≡ 0x4C → ⊥) → (b ≡ 0x4D → ⊥) → Numbered found.Nothing (letter b)
+    → (b ≡ 0x52 → ⊥) → (b ≡ 0x58 → ⊥) → (b ≡ 0x59 → ⊥) → (b ≡ 0x4C → ⊥) → (b ≡ 0x4D → ⊥) → (b ≡ 0x41 → ⊥) → Numbered found.Nothing (letter b)
 unfolding letter letters line among if_then_else_
-no-letter b p q d s c v o k r x y l m =
+no-letter b p q d s c v o k r x y l m a =
     numbered (letter b) (rw (
       ne-eqb 0x50 b (λ e. p (sym e)),
       ne-eqb 0x51 b (λ e. q (sym e)),
@@ -63,4 +63,5 @@ no-letter b p q d s c v o k r x y l m =
       ne-eqb 0x59 b (λ e. y (sym e)),
       ne-eqb 0x4C b (λ e. l (sym e)),
       ne-eqb 0x4D b (λ e. m (sym e)),
+      ne-eqb 0x41 b (λ e. a (sym e)),
     ))

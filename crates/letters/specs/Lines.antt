@@ -25,6 +25,7 @@ consoleAskOf rules.to-send-data = console.SendData
 consoleAskOf rules.ConsoleAsk.to-take = console.Take
 consoleAskOf rules.ConsoleAsk.to-go-down = console.GoDown
 consoleAskOf rules.ConsoleAsk.to-come-back = console.ComeBack
+consoleAskOf rules.to-tell-ack = console.TellAck
 
 abbrev pub controllerAskOf : rules.ControllerAsk → ControllerAsk
 controllerAskOf rules.to-send-offer = controller.SendOffer
@@ -45,6 +46,7 @@ consoleAskMeans console.SendData = rules.to-send-data
 consoleAskMeans console.Take = rules.ConsoleAsk.to-take
 consoleAskMeans console.GoDown = rules.ConsoleAsk.to-go-down
 consoleAskMeans console.ComeBack = rules.ConsoleAsk.to-come-back
+consoleAskMeans console.TellAck = rules.to-tell-ack
 
 abbrev pub controllerAskMeans : ControllerAsk → rules.ControllerAsk
 controllerAskMeans controller.SendOffer = rules.to-send-offer
@@ -108,6 +110,7 @@ asking (asked.Console console.SendData) t = rules.D-data
 asking (asked.Console console.Take) t = rules.S-take
 asking (asked.Console console.GoDown) t = rules.C-down
 asking (asked.Console console.ComeBack) t = rules.V-back
+asking (asked.Console console.TellAck) t = rules.A-ack
 asking (asked.Controller controller.SendOffer) t = rules.O-offer
 asking (asked.Controller controller.SendOk) t = rules.K-ok
 asking (asked.Controller controller.Take) t = rules.R-take

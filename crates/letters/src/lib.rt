@@ -1,4 +1,4 @@
-// The thirteen letters, whom each asks what, and the fields that it uses, as document 01's table has them.
+// The fourteen letters, whom each asks what, and the fields that it uses: document 01's table, and request 2's A.
 ghost use Prim.Native.Nat.{_<_};
 ghost use mathlib.Core.Path.{_≡_};
 ghost use Rattle.rules.specs.Letters.{letter};
@@ -12,6 +12,7 @@ pub enum ConsoleAsk {
     Take,
     GoDown,
     ComeBack,
+    TellAck,
 }
 
 pub enum ControllerAsk {
@@ -51,7 +52,7 @@ pub enum Found {
     Nothing,
 }
 
-const LINES: [Line; 13] = [
+const LINES: [Line; 14] = [
     Line {
         byte: b'P',
         asks: Asks::Console(ConsoleAsk::Put),
@@ -156,11 +157,19 @@ const LINES: [Line; 13] = [
         copies: false,
         message: false,
     },
+    Line {
+        byte: b'A',
+        asks: Asks::Console(ConsoleAsk::TellAck),
+        takes: Takes::Nothing,
+        place: false,
+        copies: false,
+        message: false,
+    },
 ];
 
 // A line of the table. At a place that is known when the code is compiled, nothing of the table is laid out.
 fn line_at(k: usize) -> Found
-    requires { ⌜ k < 13 ⌝ }
+    requires { ⌜ k < 14 ⌝ }
     ensures { λ r. ⌜ r ≡ foundAt k ⌝ }
 {
     Found::Line(LINES[k])
@@ -184,6 +193,7 @@ pub fn find(byte: u8) -> Found
         b'Y' => line_at(10),
         b'L' => line_at(11),
         b'M' => line_at(12),
+        b'A' => line_at(13),
         _ => Found::Nothing,
     }
 }

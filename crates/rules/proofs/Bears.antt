@@ -9,7 +9,7 @@ use borrow.Author.Tests.{eqb-true}
 use Rattle.rules.specs.Supply.{Supply}
 use Rattle.rules.specs.Ends.{ControllerTurn, ConsoleTurn, ToController, needI, order, done, ToConsole, offer, ok, lost, ConsoleMode}
 use Rattle.rules.specs.Ends.{in-needI, in-send, ControllerMode, in-accept, in-ack, Console, Controller, ConsoleAct, put, send-needI}
-use Rattle.rules.specs.Ends.{send-data, ControllerAct, send-offer, send-ok, puts, needI-sent, data-sent, offer-sent, ok-sent, console-takes}
+use Rattle.rules.specs.Ends.{send-data, tell-ack, ControllerAct, send-offer, send-ok, puts, needI-sent, data-sent, offer-sent, ok-sent, console-takes}
 use Rattle.rules.specs.Ends.{controller-takes, console-turn, controller-turn, numbers-after, console-power, controller-power, end-after}
 use Rattle.rules.specs.Ends.{console-acts, controller-acts, Power, same, falls, returns}
 use Rattle.rules.specs.Lists.{Opt}
@@ -104,6 +104,7 @@ module _ {S M : Type 0} (U : Supply S) (Sound : S → Type 0) (Own Borne : S →
     console-turn-bears mode (ConsoleAct.take (some p)) h x = console-takes-bears mode p h x
     console-turn-bears mode ConsoleAct.go-down h x = search
     console-turn-bears mode ConsoleAct.come-back h x = record { sound = t .sound-back s sound; mode = tt; sent = tt }
+    console-turn-bears mode tell-ack h x = search
 
   pub console-acts-bears : (e : Console S M) (act : ConsoleAct M) → Sound (e .numbers) → Console-bears (Own (e .numbers)) G P (e .mode)
       → ConsoleAct-bears (Borne (e .numbers)) G P act

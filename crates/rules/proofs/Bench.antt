@@ -7,7 +7,7 @@ use mathlib.Core.Option.{Option, none, some}
 use lib.Dec.{T}
 use Rattle.ground.specs.First.{refusal}
 use Rattle.rules.specs.Supply.{Supply}
-use Rattle.rules.specs.Letters.{Letter, P-put, Q-need, D-data, S-take, C-down, V-back, O-offer, K-ok, R-take, X-down, Y-back, L-lose, M-lose}
+use Rattle.rules.specs.Letters.{Letter, P-put, Q-need, D-data, S-take, C-down, V-back, O-offer, K-ok, R-take, X-down, Y-back, L-lose, M-lose, A-ack}
 use Rattle.rules.specs.Letters.{line}
 use Rattle.rules.specs.Ends.{ConsoleMode, refused, puts, console-turn, controller-turn, console-acts, controller-acts}
 use Rattle.rules.specs.Bench.{Bench, Action, action, Agree, Asked, console, controller, no-end, copies-of, asks, takes, missing, taken-out}
@@ -63,6 +63,7 @@ module _ {S M : Type 0} (U : Supply S) (good : M → Bool) (b : Bench S M) where
   unused Y-back k k′ n n′ m m′ p q r = refl
   unused L-lose k k′ n n′ m m′ p q r = rw (p tt)
   unused M-lose k k′ n n′ m m′ p q r = rw (p tt)
+  unused A-ack k k′ n n′ m m′ p q r = refl
 
   pub unused-fields : (a a′ : Action M) → Agree a a′ → step U good b a ≡ step U good b a′
   unused-fields a a′ h =

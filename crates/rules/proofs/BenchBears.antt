@@ -7,7 +7,7 @@ use lib.Dec.{eqb}
 use borrow.Author.Tests.{eqb-true}
 use Rattle.ground.specs.First.{refusal}
 use Rattle.rules.specs.Supply.{Supply}
-use Rattle.rules.specs.Letters.{Letter, P-put, Q-need, D-data, S-take, C-down, V-back, O-offer, K-ok, R-take, X-down, Y-back, L-lose, M-lose}
+use Rattle.rules.specs.Letters.{Letter, P-put, Q-need, D-data, S-take, C-down, V-back, O-offer, K-ok, R-take, X-down, Y-back, L-lose, M-lose, A-ack}
 use Rattle.rules.specs.Ends.{ToController, needI, order, done, ToConsole, offer, ok, lost, ConsoleMode, in-needI, in-send, ControllerMode}
 use Rattle.rules.specs.Ends.{in-accept, in-ack, console-acts, controller-acts}
 use Rattle.rules.specs.Bench.{Bench, Action, Outcome, Asked, console, controller, no-end, Taken, from-neither, from-toController}
@@ -75,6 +75,7 @@ module _ {S M : Type 0} (SoundJ SoundI : S → Type 0) (OwnJ BorneJ OwnI BorneI 
   asks-handed b Y-back k m h p = tt
   asks-handed b L-lose k m h p = tt
   asks-handed b M-lose k m h p = tt
+  asks-handed b A-ack k m h p = tt
 
   module _ (U : Supply S) (x : Tracked S U SoundJ OwnJ BorneJ) (y : Tracked S U SoundI OwnI BorneI) where
     pub does-bears : (b : Bench S M) (n : ℕ) (asked : Asked M) → Bench-bears b → Handed (b .console .numbers) (b .controller .numbers) asked

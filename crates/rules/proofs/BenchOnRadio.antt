@@ -13,7 +13,7 @@ use Rattle.ground.specs.Choice.{if_then_else_}
 use Rattle.ground.specs.First.{refusal}
 use Rattle.ground.proofs.Tests.{by-test}
 use Rattle.rules.specs.Supply.{Supply}
-use Rattle.rules.specs.Letters.{Letter, P-put, Q-need, D-data, S-take, C-down, V-back, O-offer, K-ok, R-take, X-down, Y-back, L-lose, M-lose, line}
+use Rattle.rules.specs.Letters.{Letter, P-put, Q-need, D-data, S-take, C-down, V-back, O-offer, K-ok, R-take, X-down, Y-back, L-lose, M-lose, A-ack, line}
 use Rattle.rules.specs.Ends.{ToController, ToConsole, Console, Controller, ConsoleAct, ControllerAct, ConsoleActed, ControllerActed, absent}
 use Rattle.rules.specs.Ends.{console-rules, controller-rules, console-acts, controller-acts, console-step, controller-step}
 use Rattle.rules.specs.Bench.{Bench, Action, action, Outcome, Asked, console, controller, no-end, Taken, from-neither, from-toController, from-toConsole, at, copies-of, asks, takes, missing, taken-out, console-did, controller-did, does, effect, end-rules, rules-of, step, fresh}
@@ -150,6 +150,7 @@ module _ {S N : Type 0} (U : Supply S) (good : N → Bool) where
   asked-over b k Y-back p m o e = (p, refl)
   asked-over b k L-lose p m o e = (p, refl)
   asked-over b k M-lose p m o e = (p, refl)
+  asked-over b k A-ack p m o e = (p, refl)
 
 -- an action that is not refused: neither by the end that is asked, nor for its place
 staged-passes : (ten : Bool) (end : ℕ) (three nine : Bool) → staged ten end three nine ≡ 0 → (end ≡ 0) × (three ≡ false)

@@ -1,5 +1,5 @@
--- Numbers in blocks: demand 3 holds as it reads; every number that stands is at most what its end has reserved; and an end's number record changes
--- only where a number is taken with last used at what is reserved. Assumes nothing.
+-- Numbers in blocks: demand 3 holds as it reads, with and without readings; every number that stands is at most what its end has reserved; and an
+-- end's number record changes only where a number is taken with last used at what is reserved. Assumes nothing.
 use Prim.Native.Nat.{ℕ, _≤_}
 use mathlib.Core.Path.{_≡_, refl}
 use mathlib.Core.Logic.{_⊎_, inl, inr}
@@ -7,26 +7,37 @@ use mathlib.Core.Bool.{Bool, true, false}
 use mathlib.Core.List.{List}
 use lib.Dec.{eqb}
 use borrow.Author.Tests.{eqb-true, eqb-false}
+use Rattle.ground.specs.Cell.{isMessage}
 use Rattle.ground.specs.First.{refusal}
 use Rattle.ground.proofs.Tests.{by-test}
-use Rattle.rules.specs.Supply.{largest, Blocks, blocks, fresh-numbers}
+use Rattle.rules.specs.Supply.{largest, Blocks, blocks, numbering, fresh-numbers}
 use Rattle.rules.specs.Ends.{Power, same, falls, returns, Console, Controller, ConsoleAct, ControllerAct, ConsoleActed, ControllerActed, numbers-after, end-after}
 use Rattle.rules.specs.Ends.{console-rules, controller-rules, console-acts, controller-acts, console-step, controller-step, console-turn, controller-turn, console-power, controller-power}
 use Rattle.rules.specs.Bench.{Bench, Action, run, fresh}
 use Rattle.rules.specs.Bears.{Any}
 use Rattle.rules.specs.WellFormed.{Used}
 use Rattle.rules.specs.Demand3.{Demand3}
-use Rattle.rules.proofs.Supply.{blocks-lawful, fresh-sound, used-is-reserved, reserved-stays}
+use Rattle.rules.specs.ReadDemand3.{Demand3-read}
+use Rattle.rules.proofs.Supply.{blocks-lawful, numbering-lawful, fresh-sound, used-is-reserved, reserved-stays}
 use Rattle.rules.proofs.Lists.{all-map, if-holds}
 use Rattle.rules.proofs.Numbers.{Borne-by-all, UJ, run-UJ, run-UI, fresh-UI}
 use Rattle.rules.proofs.BenchBears.{weaken-toController, weaken-toConsole, weaken-console, weaken-controller}
 use Rattle.rules.proofs.WellFormed.{run-well-formed, fresh-well-formed}
 use Rattle.rules.proofs.Demand3.{demand3}
+use Rattle.rules.proofs.ReadDemand3.{demand3-read}
 
 -- ## Demand 3, from any two starting numbers
 
 pub demand3-blocks : {M : Type 0} (good : M → Bool) (j i : ℕ) (l : List (Action M)) → Demand3 blocks good (fresh-numbers j) (fresh-numbers i) l
 demand3-blocks good j i l = demand3 blocks good blocks-lawful (fresh-numbers j) (fresh-numbers i) l
+
+-- and as request 2 words it; with document 01's messages
+pub demand3-read-blocks : {M : Type 0} (good : M → Bool) (j i : ℕ) (l : List (Action M))
+    → Demand3-read numbering good (fresh-numbers j) (fresh-numbers i) l
+demand3-read-blocks good j i l = demand3-read numbering good numbering-lawful (fresh-numbers j) (fresh-numbers i) l
+
+pub demand3-read-messages : (j i : ℕ) (l : List (Action (List ℕ))) → Demand3-read numbering isMessage (fresh-numbers j) (fresh-numbers i) l
+demand3-read-messages j i l = demand3-read-blocks isMessage j i l
 
 -- ## Covered: every J that stands is at most what the console has reserved, every I at most what the controller has
 

@@ -8,7 +8,7 @@ use mathlib.Core.Option.{Option·map}
 use mathlib.Core.List.{List, [], _∷_, map}
 use Rattle.ground.specs.Cell.{isMessage}
 use Rattle.rules.specs.Supply.{Supply, Lawful, counted}
-use Rattle.rules.specs.Letters.{Letter, P-put, Q-need, D-data, S-take, C-down, V-back, O-offer, K-ok, R-take, X-down, Y-back, L-lose, M-lose}
+use Rattle.rules.specs.Letters.{Letter, P-put, Q-need, D-data, S-take, C-down, V-back, O-offer, K-ok, R-take, X-down, Y-back, L-lose, M-lose, A-ack}
 use Rattle.rules.specs.Ends.{Report, nothing, delivered, answered-ok, answered-lost, refused}
 use Rattle.rules.specs.Bench.{Bench, Action, Outcome, step, reports, fresh}
 use Rattle.rules.specs.Relabel.{in-action, in-report, in-bench, in-outcome}
@@ -44,6 +44,7 @@ module _ {M : Type 0} where
   acted-shown n Y-back c = refl
   acted-shown n L-lose c = refl
   acted-shown n M-lose c = refl
+  acted-shown n A-ack c = refl
 
   pub row-shown : (n held : ℕ) (a : Action M) (r : Report (Labelled M)) → Option·map unnumbered (row n held a r) ≡ shown a (in-report bare r)
   row-shown n held a nothing = acted-shown n (a .letter) (a .message)

@@ -16,7 +16,7 @@ use Rattle.ground.specs.Cell.{isMessage, cells}
 use Rattle.rules.specs.Supply.{Supply, counted}
 use Rattle.rules.specs.Ends.{ControllerActed, ConsoleActed, ToController, needI, order, done, ToConsole, offer, ok, lost, ConsoleMode}
 use Rattle.rules.specs.Ends.{in-needI, in-send, ControllerMode, in-accept, in-ack, Console, Controller, ConsoleAct, put, send-needI}
-use Rattle.rules.specs.Ends.{send-data, ControllerAct, send-offer, send-ok, Report, nothing, delivered, answered-ok, answered-lost, refused}
+use Rattle.rules.specs.Ends.{send-data, tell-ack, ControllerAct, send-offer, send-ok, Report, nothing, delivered, answered-ok, answered-lost, refused}
 use Rattle.rules.specs.Ends.{ConsoleTurn, ControllerTurn, puts, console-takes, controller-takes, console-turn, controller-turn, console-rules, controller-rules}
 use Rattle.rules.specs.Ends.{console-acts, controller-acts, console-step, controller-step}
 use Rattle.rules.specs.Bench.{rules}
@@ -63,6 +63,7 @@ module _ {M : Type 0} (P : Report M → Type 0) (n : P nothing) (o : P answered-
   console-reports U e (ConsoleAct.take (some p)) = console-takes-report _ p
   console-reports U e ConsoleAct.go-down = n
   console-reports U e ConsoleAct.come-back = n
+  console-reports U e tell-ack = n
 
 -- what a controller reports: nothing, or a message delivered
 module _ {M : Type 0} (P : Report M → Type 0) (n : P nothing) (d : (m : M) → P (delivered m)) where

@@ -5,7 +5,7 @@ use mathlib.Core.Option.{some}
 use mathlib.Core.List.{map}
 use Rattle.ground.specs.Choice.{if_then_else_}
 use Rattle.rules.specs.Lists.{distinct}
-use Rattle.rules.specs.Letters.{Letter, P-put, Q-need, D-data, S-take, C-down, V-back, O-offer, K-ok, R-take, X-down, Y-back, L-lose, M-lose}
+use Rattle.rules.specs.Letters.{Letter, P-put, Q-need, D-data, S-take, C-down, V-back, O-offer, K-ok, R-take, X-down, Y-back, L-lose, M-lose, A-ack}
 use Rattle.rules.specs.Letters.{line, letters, among, letter}
 
 pub no-byte-twice : distinct (map (λ l. line l .byte) letters) ≡ true
@@ -27,3 +27,4 @@ letter-of X-down = refl
 letter-of Y-back = refl
 letter-of L-lose = refl
 letter-of M-lose = refl
+letter-of A-ack = refl

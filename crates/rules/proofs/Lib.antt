@@ -19,9 +19,15 @@ pub mod Radio
 pub mod RadioSteps
 pub mod RadioVectors
 pub mod RadioWellFormed
+pub mod ReadDemand3
+pub mod ReadPlain
+pub mod ReadRadio
+pub mod ReadRows
+pub mod Readings
 pub mod Refusals
 pub mod Relabel
 pub mod RunAccepted
+pub mod Said
 pub mod Stages
 pub mod Starred
 pub mod Steps
@@ -29,3 +35,4 @@ pub mod Supply
 pub mod Turns
 pub mod WellFormed
 pub mod Wrong
+pub mod WrongReadings

@@ -9,7 +9,7 @@ use mathlib.Core.List.{List, [], _∷_}
 use Rattle.ground.specs.Choice.{if_then_else_}
 use Rattle.ground.specs.First.{applies}
 use Rattle.rules.specs.Supply.{Supply, Lawful}
-use Rattle.rules.specs.Letters.{Letter, P-put, Q-need, D-data, S-take, C-down, V-back, O-offer, K-ok, R-take, X-down, Y-back, L-lose, M-lose}
+use Rattle.rules.specs.Letters.{Letter, P-put, Q-need, D-data, S-take, C-down, V-back, O-offer, K-ok, R-take, X-down, Y-back, L-lose, M-lose, A-ack}
 use Rattle.rules.specs.Letters.{line}
 use Rattle.rules.specs.Ends.{ToController, needI, order, done, unknown, console-rules, controller-rules, refused}
 use Rattle.rules.specs.Bench.{Bench, Action, action, at, asks, end-rules, rules-of, step, run, fresh}
@@ -135,6 +135,7 @@ module _ {S M : Type 0} (U : Supply S) (good : M → Bool) where
   seven b Y-back k n m h = refl
   seven b L-lose k n m h = refl
   seven b M-lose k n m h = refl
+  seven b A-ack k n m h = refl
 
   -- a bench with UI never refuses with 7, nor does one in a run from a fresh bench
   pub no-seven : (b : Bench S M) (a : Action M) → UI U b → step U good b a .report ≢ refused 7

@@ -7,8 +7,8 @@ use mathlib.Core.Option.{Option, none, some}
 use lib.Dec.{eqb}
 use Rattle.ground.specs.First.{refusal}
 use Rattle.rules.specs.Supply.{Supply}
-use Rattle.rules.specs.Letters.{ConsoleAsk, to-put, to-send-needI, to-send-data, ControllerAsk, to-send-offer, to-send-ok, Asks, the-console, the-controller, neither-end, line}
-use Rattle.rules.specs.Ends.{ToController, needI, order, done, Console, Controller, ConsoleAct, ControllerAct, put, send-needI, send-data}
+use Rattle.rules.specs.Letters.{ConsoleAsk, to-put, to-send-needI, to-send-data, to-tell-ack, ControllerAsk, to-send-offer, to-send-ok, Asks, the-console, the-controller, neither-end, line}
+use Rattle.rules.specs.Ends.{ToController, needI, order, done, Console, Controller, ConsoleAct, ControllerAct, put, send-needI, send-data, tell-ack}
 use Rattle.rules.specs.Ends.{send-offer, send-ok, Power, same, falls, returns, numbers-after, end-after, unknown, console-rules, controller-rules}
 use Rattle.rules.specs.Ends.{console-acts, controller-acts, console-step, controller-step, ConsoleMode, in-needI, in-send, ControllerMode, in-accept, in-ack}
 use Rattle.rules.specs.Ends.{ToConsole, offer, ok, lost, ConsoleTurn, ControllerTurn, puts, absent, console-takes, controller-takes, console-turn, controller-turn}
@@ -62,6 +62,7 @@ module _ {S M : Type 0} (U : Supply S) where
   console-rules-by-offer good e (ConsoleAct.take p) = refl
   console-rules-by-offer good e ConsoleAct.go-down = refl
   console-rules-by-offer good e ConsoleAct.come-back = refl
+  console-rules-by-offer good e tell-ack = refl
 
   -- of the packet that the act takes, `known` makes 7 say what the numbers make it say
   abbrev pub Same-7 : Bool → S → ControllerAct M → Type 0
@@ -141,6 +142,7 @@ module _ {S M : Type 0} (U : Supply S) where
   asked-so known b k m (the-console ConsoleAsk.to-take) = refl
   asked-so known b k m (the-console ConsoleAsk.to-go-down) = refl
   asked-so known b k m (the-console ConsoleAsk.to-come-back) = refl
+  asked-so known b k m (the-console to-tell-ack) = refl
   asked-so known b k m (the-controller to-send-offer) = refl
   asked-so known b k m (the-controller to-send-ok) = refl
   asked-so known b k m (the-controller ControllerAsk.to-take) = refl
@@ -170,6 +172,7 @@ module _ {S M : Type 0} (U : Supply S) where
   same-7 b k m (the-console ConsoleAsk.to-take) = tt
   same-7 b k m (the-console ConsoleAsk.to-go-down) = tt
   same-7 b k m (the-console ConsoleAsk.to-come-back) = tt
+  same-7 b k m (the-console to-tell-ack) = tt
   same-7 b k m (the-controller to-send-offer) = refl
   same-7 b k m (the-controller to-send-ok) = refl
   same-7 b k m (the-controller ControllerAsk.to-take) = unknown-by-offer _ (at (b .toController) k)
@@ -214,6 +217,7 @@ module _ {M : Type 0} where
   console-took next mode (ConsoleAct.take (some p)) h = absurd (true≢false (sym h ∙ console-takes-stay mode p))
   console-took next mode ConsoleAct.go-down h = absurd (true≢false (sym h))
   console-took next mode ConsoleAct.come-back h = absurd (true≢false (sym h))
+  console-took next mode tell-ack h = absurd (true≢false (sym h))
 
   abbrev Stays-put : ControllerTurn M → Type 0
   Stays-put t = t .took ≡ false

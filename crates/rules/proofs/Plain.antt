@@ -12,7 +12,7 @@ use Rattle.rules.specs.Log.{console-up, controller-up, waiting, put-coun
 use Rattle.rules.specs.Lists.{In}
 use Rattle.rules.specs.Plain.{Answer, Restarted, Plain}
 
-either : (a b : Bool) → T (a || b) → T a ⊎ T b
+pub either : (a b : Bool) → T (a || b) → T a ⊎ T b
 either true b h = inl tt
 either false b h = inr h
 
@@ -22,11 +22,11 @@ module _ {M : Type 0} where
   right-part [] l h = h
   right-part (e ∷ z) l h = right-part z l (h .0)
 
-  there : (e : Event M) (y x : Log M) → In e (y ++ e ∷ x)
+  pub there : (e : Event M) (y x : Log M) → In e (y ++ e ∷ x)
   there e [] x = inl refl
   there e (d ∷ y) x = inr (there e y x)
 
-  more-puts : (y l : Log M) → put-count l ≤ put-count (y ++ l)
+  pub more-puts : (y l : Log M) → put-count l ≤ put-count (y ++ l)
   more-puts [] l = omega arith
   more-puts (Put k c ∷ y) l = omega (arith, more-puts y l)
   more-puts (Delivered k c ∷ y) l = omega (arith, more-puts y l)
@@ -103,7 +103,7 @@ module _ {M : Type 0} where
     since : Log M
     splits : l ≡ since ++ Put n cells ∷ before
 
-  abbrev last-put : Log M → Option ℕ
+  abbrev pub last-put : Log M → Option ℕ
   last-put [] = none
   last-put (Put k c ∷ l) = some k
   last-put (Delivered k c ∷ l) = last-put l
@@ -190,7 +190,7 @@ module _ {M : Type 0} where
         was-up = h .was-up;
       }
 
-  find-restart : (l : Log M) (n : ℕ) → T (fell-and-back l) → last-put l ≡ some n → Restarted n l
+  pub find-restart : (l : Log M) (n : ℕ) → T (fell-and-back l) → last-put l ≡ some n → Restarted n l
   find-restart [] n f e = absurd f
   find-restart (Put k c ∷ l) n f e = absurd f
   find-restart (Delivered k c ∷ l) n f e = later-restart n (Delivered k c) l (find-restart l n f e)

@@ -10,8 +10,8 @@ use lib.Dec.{eqb}
 use Rattle.ground.specs.First.{refusal}
 use Rattle.ground.proofs.Tests.{by-test}
 use Rattle.rules.specs.Supply.{Supply, Lawful}
-use Rattle.rules.specs.Letters.{Letter, C-down, X-down, ConsoleAsk, to-put, to-send-needI, to-send-data, ControllerAsk, to-send-offer, to-send-ok, Asks, the-console, the-controller, neither-end, line}
-use Rattle.rules.specs.Ends.{End, Console, Controller, ConsoleMode, ControllerMode, ToController, ToConsole, ConsoleAct, ControllerAct, put, send-needI, send-data, send-offer, send-ok}
+use Rattle.rules.specs.Letters.{Letter, C-down, X-down, ConsoleAsk, to-put, to-send-needI, to-send-data, to-tell-ack, ControllerAsk, to-send-offer, to-send-ok, Asks, the-console, the-controller, neither-end, line}
+use Rattle.rules.specs.Ends.{End, Console, Controller, ConsoleMode, ControllerMode, ToController, ToConsole, ConsoleAct, ControllerAct, put, send-needI, send-data, tell-ack, send-offer, send-ok}
 use Rattle.rules.specs.Ends.{Acted, Report, nothing, delivered, answered-ok, answered-lost, refused, ConsoleActed, ControllerActed, console-rules, controller-rules, console-step, controller-step, ends}
 use Rattle.rules.specs.Bench.{Bench, Action, action, Outcome, Asked, console, controller, no-end, copies-of, asked-to, asks, end-rules, fresh}
 use Rattle.rules.specs.Relabel.{in-packet, in-bench, in-action, in-report, in-outcome}
@@ -33,6 +33,7 @@ use Rattle.rules.proofs.Invariant.{Inv}
 use Rattle.rules.proofs.RunAccepted.{Kept, write-accepted, judge-write, fresh-kept}
 use Rattle.rules.proofs.Plain.{right-plain}
 use Rattle.rules.proofs.Demand3.{bare, row-shown}
+use Rattle.rules.proofs.Said.{No-answer}
 use Rattle.rules.proofs.RadioSteps.{aired-is, aired-keeps}
 
 -- ## A step of one end keeps what holds between two steps
@@ -59,7 +60,7 @@ module _ {S M : Type 0} (U : Supply S) (laws : Lawful S U) where
       record { console = d .console; controller = d .controller; to-controller = d .to-controller; to-console = d .to-console }
 
 -- the cells of an order are tested, its number is not
-abbrev fit : {M : Type 0} → (M → Bool) → Labelled M → Bool
+abbrev pub fit : {M : Type 0} → (M → Bool) → Labelled M → Bool
 fit good m = good (m .cells)
 
 module _ {S M : Type 0} (U : Supply S) (laws : Lawful S U) (good : M → Bool) where
@@ -88,7 +89,7 @@ module _ {S M : Type 0} (U : Supply S) (laws : Lawful S U) (good : M → Bool) w
 -- ## A downed end's mode does not matter: what a power cut leaves of an end acts as the end that went down with all it had
 
 -- e is what the end g is, or g is down and e is what a cut leaves of it
-abbrev Alike : {S Mode : Type 0} → Mode → End S Mode → End S Mode → Type 0
+abbrev pub Alike : {S Mode : Type 0} → Mode → End S Mode → End S Mode → Type 0
 Alike idle g e = (g ≡ e) ⊎ ((g .up ≡ false) × (e ≡ downed (g .numbers) idle))
 
 -- what holds of an end and itself, and of a downed end and what a cut leaves of it
@@ -103,13 +104,6 @@ alike-numbers : {S Mode : Type 0} (idle : Mode) (g e : End S Mode) → Alike idl
 alike-numbers idle g e h = alike-either idle (λ g e. e .numbers ≡ g .numbers) (λ e. refl) (λ s k. refl) g e h
 
 -- a report that is no answer: the row that it leaves does not depend on the order that is held
-abbrev No-answer : {M : Type 0} → Report M → Type 0
-No-answer nothing = Unit {0}
-No-answer (delivered m) = Unit {0}
-No-answer answered-ok = ⊥
-No-answer answered-lost = ⊥
-No-answer (refused n) = Unit {0}
-
 row-held : {M : Type 0} (n x y : ℕ) (a : Action M) (r : Report (Labelled M)) → No-answer r → row n x a r ≡ row n y a r
 row-held n x y a nothing h = refl
 row-held n x y a (delivered m) h = refl
@@ -145,6 +139,7 @@ module _ {S M : Type 0} (U : Supply S) (good : M → Bool) where
   down-console s k (ConsoleAct.take p) = (same-down _ s k _, inr tt)
   down-console s k ConsoleAct.go-down = (same-down _ s k _, inr tt)
   down-console s k ConsoleAct.come-back = (same-self _ _, inr tt)
+  down-console s k tell-ack = (same-down _ s k _, inr tt)
 
   console-same : (g e : Console S M) (act : ConsoleAct M) → Alike ConsoleMode.idle g e → Console-same g e act
   console-same g e act h =
@@ -186,6 +181,7 @@ module _ {S M : Type 0} where
   same-asked (the-console ConsoleAsk.to-take) c r b k m = refl
   same-asked (the-console ConsoleAsk.to-go-down) c r b k m = refl
   same-asked (the-console ConsoleAsk.to-come-back) c r b k m = refl
+  same-asked (the-console to-tell-ack) c r b k m = refl
   same-asked (the-controller to-send-offer) c r b k m = refl
   same-asked (the-controller to-send-ok) c r b k m = refl
   same-asked (the-controller ControllerAsk.to-take) c r b k m = refl
@@ -396,7 +392,7 @@ module _ {S M : Type 0} (U : Supply S) (laws : Lawful S U) (good : M → Bool) w
 
   -- ## Whatever happens
 
-  happening-follows : (past : Log M) (l : Link S (Labelled M)) (h : Happening M) → Follows past l
+  pub happening-follows : (past : Log M) (l : Link S (Labelled M)) (h : Happening M) → Follows past l
       → let k = suc (put-count past) in Follows (write (row-left U good k l h) past) (labelled-happens U good k l h .after)
   unfolding happens
   happening-follows past l (acts a) f = goes-through past l f a (asked l (in-action (labelled (suc (put-count past))) a)) refl
@@ -410,7 +406,7 @@ module _ {S M : Type 0} (U : Supply S) (laws : Lawful S U) (good : M → Bool) w
       let k = suc (put-count past) in
       all-accepted (write (row-left U good k l h) past) (labelled-happens U good k l h .after) hs (happening-follows past l h f)
 
-  start-follows : (j i : S) → Follows [] (start j i)
+  pub start-follows : (j i : S) → Follows [] (start j i)
   unfolding fresh
   start-follows j i =
       record {
@@ -426,10 +422,10 @@ module _ {S M : Type 0} (U : Supply S) (laws : Lawful S U) (good : M → Bool) w
 -- ## The numbers taken off
 
 module _ {M N : Type 0} (f : M → N) where
-  abbrev in-link : {S : Type 0} → Link S M → Link S N
+  abbrev pub in-link : {S : Type 0} → Link S M → Link S N
   in-link l = record { bench = in-bench f (l .bench); console-kept = l .console-kept; controller-kept = l .controller-kept }
 
-  abbrev in-came : {S : Type 0} → Came S M → Came S N
+  abbrev pub in-came : {S : Type 0} → Came S M → Came S N
   in-came d = record { report = in-report f (d .report); after = in-link (d .after) }
 
   module _ {S : Type 0} (U : Supply S) (good : M → Bool) (good′ : N → Bool) (same : (m : M) → good′ (f m) ≡ good m) where
@@ -459,7 +455,7 @@ module _ {M N : Type 0} (f : M → N) where
 
 module _ {S M : Type 0} (U : Supply S) (good : M → Bool) where
   -- one happening: what the boxes do is the labelled step with the numbers taken off
-  bare-happens : (n : ℕ) (l : Link S (Labelled M)) (h : Happening M) → happens U good (in-link bare l) h ≡ in-came bare (labelled-happens U good n l h)
+  pub bare-happens : (n : ℕ) (l : Link S (Labelled M)) (h : Happening M) → happens U good (in-link bare l) h ≡ in-came bare (labelled-happens U good n l h)
   bare-happens n l (acts a) = nat-happens bare U (λ m. good (m .cells)) good (λ m. refl) l (acts (in-action (labelled n) a))
   bare-happens n l (kept-and-cut a) = nat-happens bare U (λ m. good (m .cells)) good (λ m. refl) l (kept-and-cut (in-action (labelled n) a))
   bare-happens n l (cut a) = nat-happens bare U (λ m. good (m .cells)) good (λ m. refl) l (cut (in-action (labelled n) a))
@@ -469,7 +465,7 @@ module _ {S M : Type 0} (U : Supply S) (good : M → Bool) where
   fall-shown (controller act) = refl
   fall-shown no-end = refl
 
-  fallen-shown : (n : ℕ) (l : Link S (Labelled M)) (a : Action M) → Option·map unnumbered (fall-of {M = M} (asked l (in-action (labelled n) a))) ≡ fall-of (asked (in-link bare l) a)
+  pub fallen-shown : (n : ℕ) (l : Link S (Labelled M)) (a : Action M) → Option·map unnumbered (fall-of {M = M} (asked l (in-action (labelled n) a))) ≡ fall-of (asked (in-link bare l) a)
   fallen-shown n l a = fall-shown (asked l (in-action (labelled n) a)) ∙ ap (λ (x : Asked M). fall-of x) (sym (nat-asks bare U (l .bench) (a .letter) (a .place) (labelled n (a .message))))
 
   left-shown : (n : ℕ) (l : Link S (Labelled M)) (h : Happening M) → Option·map unnumbered (row-left U good n l h) ≡ shown-of U good (in-link bare l) h

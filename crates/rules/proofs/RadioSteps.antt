@@ -10,7 +10,7 @@ use borrow.Author.Tests.{eqb-true, not-false}
 use Rattle.ground.specs.Choice.{if_then_else_}
 use Rattle.ground.specs.First.{first, refusal, applies}
 use Rattle.rules.specs.Supply.{Supply, Lawful}
-use Rattle.rules.specs.Letters.{Letter, P-put, Q-need, D-data, S-take, C-down, V-back, O-offer, K-ok, R-take, X-down, Y-back, L-lose, M-lose}
+use Rattle.rules.specs.Letters.{Letter, P-put, Q-need, D-data, S-take, C-down, V-back, O-offer, K-ok, R-take, X-down, Y-back, L-lose, M-lose, A-ack}
 use Rattle.rules.specs.Ends.{ConsoleAct, ControllerAct, put, Report, nothing, delivered, answered-ok, answered-lost, refused}
 use Rattle.rules.specs.Ends.{console-turn, controller-turn, up-after, console-rules, controller-rules, console-acts, controller-acts, console-step, controller-step}
 use Rattle.rules.specs.Bench.{Bench, action, Outcome, Asked, console, controller, no-end, at, copies-of, asks, takes, taken-out, console-did, controller-did, does, effect, end-rules}
@@ -24,7 +24,7 @@ use Rattle.rules.proofs.Refusals.{passed}
 use Rattle.rules.proofs.Numbers.{Borne-by-all}
 use Rattle.rules.proofs.Invariant.{Inv}
 use Rattle.rules.proofs.Turns.{console-takes-good, controller-takes-good}
-use Rattle.rules.proofs.Steps.{Good, S-console, R-controller, by-console, by-controller, unused, console-up, controller-up, P-keeps, Q-keeps, D-keeps, C-keeps, V-keeps, O-keeps, K-keeps, X-keeps, Y-keeps}
+use Rattle.rules.proofs.Steps.{Good, S-console, R-controller, by-console, by-controller, unused, console-up, controller-up, P-keeps, Q-keeps, D-keeps, C-keeps, V-keeps, A-keeps, O-keeps, K-keeps, X-keeps, Y-keeps}
 
 -- ## The row does not depend on place and copies
 
@@ -95,6 +95,7 @@ module _ {S M : Type 0} (U : Supply S) (laws : Lawful S U) (b : Bench S (Labelle
   does-fine Y-back e = Y-keeps U laws b w h k n x 1 c (passed (controller-rules {M = Labelled M} U (b .controller) ControllerAct.come-back) e 5 tt)
   does-fine L-lose e = record { allowed = tt; inv = h }
   does-fine M-lose e = record { allowed = tt; inv = h }
+  does-fine A-ack e = A-keeps U laws b w h k n x 1 c
 
   fine : (l : Letter) → Fine l (aired U good b (asks b l x (labelled n c)))
   fine l =

@@ -6,7 +6,7 @@ use lib.Dec.{eqb}
 use borrow.Author.Tests.{eqb-true}
 use Rattle.ground.specs.First.{refusal}
 use Rattle.rules.specs.Supply.{Supply, Lawful}
-use Rattle.rules.specs.Letters.{Letter, ConsoleAsk, to-put, to-send-needI, to-send-data, ControllerAsk, to-send-offer, to-send-ok, Asks, the-console, the-controller, neither-end, line}
+use Rattle.rules.specs.Letters.{Letter, ConsoleAsk, to-put, to-send-needI, to-send-data, to-tell-ack, ControllerAsk, to-send-offer, to-send-ok, Asks, the-console, the-controller, neither-end, line}
 use Rattle.rules.specs.Ends.{Console, Controller, ConsoleAct, ControllerAct, ConsoleActed, ControllerActed, console-rules, controller-rules, console-step, controller-step}
 use Rattle.rules.specs.Bench.{Bench, Asked, console, controller, no-end, copies-of, asked-to, asks, fresh}
 use Rattle.rules.specs.Lists.{All, Opt}
@@ -38,6 +38,7 @@ module _ {S M : Type 0} (U : Supply S) (good : M → Bool) where
   asked-ok (the-console ConsoleAsk.to-take) b k m u d = all-at _ (b .toConsole) k d
   asked-ok (the-console ConsoleAsk.to-go-down) b k m u d = tt
   asked-ok (the-console ConsoleAsk.to-come-back) b k m u d = tt
+  asked-ok (the-console to-tell-ack) b k m u d = tt
   asked-ok (the-controller to-send-offer) b k m u d = tt
   asked-ok (the-controller to-send-ok) b k m u d = tt
   asked-ok (the-controller ControllerAsk.to-take) b k m u d = all-at _ (b .toController) k u

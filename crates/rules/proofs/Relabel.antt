@@ -8,10 +8,10 @@ use lib.ListN.{replicate, length-map}
 use lib.Dec.{eqb}
 use Rattle.ground.specs.First.{refusal}
 use Rattle.rules.specs.Supply.{Supply}
-use Rattle.rules.specs.Letters.{Letter, ConsoleAsk, to-put, to-send-needI, to-send-data, ControllerAsk, to-send-offer, to-send-ok, Asks, the-console, the-controller, neither-end, line}
+use Rattle.rules.specs.Letters.{Letter, ConsoleAsk, to-put, to-send-needI, to-send-data, to-tell-ack, ControllerAsk, to-send-offer, to-send-ok, Asks, the-console, the-controller, neither-end, line}
 use Rattle.rules.specs.Ends.{ControllerTurn, ConsoleTurn, ToController, needI, order, done, ToConsole, offer}
 use Rattle.rules.specs.Ends.{ok, lost, ConsoleMode, in-needI, in-send, ControllerMode, in-accept, in-ack, Console, Controller, ConsoleAct}
-use Rattle.rules.specs.Ends.{put, send-needI, send-data, ControllerAct, send-offer, send-ok, puts, needI-sent, data-sent, console-takes}
+use Rattle.rules.specs.Ends.{put, send-needI, send-data, tell-ack, ControllerAct, send-offer, send-ok, puts, needI-sent, data-sent, console-takes}
 use Rattle.rules.specs.Ends.{controller-takes, console-turn, controller-turn, console-power, controller-power, end-after, absent, holding}
 use Rattle.rules.specs.Ends.{unknown, console-rules, controller-rules, console-acts, controller-acts, console-step, controller-step}
 use Rattle.rules.specs.Bench.{Bench, Action, Asked, console, controller, no-end, Taken, from-neither, from-toController, from-toConsole, at}
@@ -125,6 +125,7 @@ module _ {M N : Type 0} (f : M → N) where
   nat-console-turn next mode (ConsoleAct.take (some p)) = nat-console-takes mode p
   nat-console-turn next mode ConsoleAct.go-down = refl
   nat-console-turn next mode ConsoleAct.come-back = refl
+  nat-console-turn next mode tell-ack = refl
 
   nat-controller-turn : (next : Option ℕ) (mode : ControllerMode) (act : ControllerAct M)
       → controller-turn next mode (in-controller-act f act) ≡ in-controller-turn (controller-turn next mode act)
@@ -143,6 +144,7 @@ module _ {M N : Type 0} (f : M → N) where
   same-console-power (ConsoleAct.take p) = refl
   same-console-power ConsoleAct.go-down = refl
   same-console-power ConsoleAct.come-back = refl
+  same-console-power tell-ack = refl
 
   same-controller-power : (act : ControllerAct M) → controller-power (in-controller-act f act) ≡ controller-power act
   same-controller-power send-offer = refl
@@ -185,6 +187,7 @@ module _ {M N : Type 0} (f : M → N) where
       nat-console-rules e (ConsoleAct.take p) = refl
       nat-console-rules e ConsoleAct.go-down = refl
       nat-console-rules e ConsoleAct.come-back = refl
+      nat-console-rules e tell-ack = simp nat-holding
 
       pub nat-console-step : (e : Console S M) (act : ConsoleAct M)
           → console-step U good′ (in-console f e) (in-console-act f act) ≡ in-console-acted f (console-step U good e act)
@@ -216,6 +219,7 @@ module _ {M N : Type 0} (f : M → N) where
     nat-asked-to (the-console ConsoleAsk.to-take) b k m = refl
     nat-asked-to (the-console ConsoleAsk.to-go-down) b k m = refl
     nat-asked-to (the-console ConsoleAsk.to-come-back) b k m = refl
+    nat-asked-to (the-console to-tell-ack) b k m = refl
     nat-asked-to (the-controller to-send-offer) b k m = refl
     nat-asked-to (the-controller to-send-ok) b k m = refl
     nat-asked-to (the-controller ControllerAsk.to-take) b k m = rw map-at

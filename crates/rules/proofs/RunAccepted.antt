@@ -36,7 +36,7 @@ module _ {S M : Type 0} (U : Supply S) (laws : Lawful S U) (good : M → Bool) w
     pub inv : Inv S M b (judge past)
     pub known : Borne-by-all (Used U (b .console .numbers)) (Used U (b .controller .numbers)) b
 
-  action-keeps : (past : Log M) (b : Bench S (Labelled M)) (a : Action M) → Kept past b
+  pub action-keeps : (past : Log M) (b : Bench S (Labelled M)) (a : Action M) → Kept past b
       → Kept (write (row-of U good past b a) past) (labelled-step U good past b a .after)
   action-keeps past b a h =
       let n = suc (put-count past) in

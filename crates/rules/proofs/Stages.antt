@@ -10,7 +10,7 @@ use borrow.Author.Tests.{eq-eqb, ne-eqb}
 use Rattle.ground.specs.Choice.{if_then_else_}
 use Rattle.ground.specs.First.{first, applies, refusal}
 use Rattle.rules.specs.Supply.{Supply}
-use Rattle.rules.specs.Letters.{Letter, P-put, Q-need, D-data, S-take, C-down, V-back, O-offer, K-ok, R-take, X-down, Y-back, L-lose, M-lose, line}
+use Rattle.rules.specs.Letters.{Letter, P-put, Q-need, D-data, S-take, C-down, V-back, O-offer, K-ok, R-take, X-down, Y-back, L-lose, M-lose, A-ack, line}
 use Rattle.rules.specs.Ends.{ToController, refused, absent, unknown, console-rules, controller-rules}
 use Rattle.rules.specs.Bench.{Bench, Action, action, at, asks, takes, missing, no-room, end-rules, rules-of, effect, step}
 
@@ -112,6 +112,7 @@ module _ {S M : Type 0} (U : Supply S) (good : M → Bool) (b : Bench S M) where
   in-stages Y-back k n m = back-staged _
   in-stages L-lose k n m = still-staged _
   in-stages M-lose k n m = still-staged _
+  in-stages A-ack k n m = sending-staged false false _ _
 
   pub step-refuses : (a : Action M) (n : ℕ) → refusal (rules-of U good b a) ≡ n → (n ≡ 0 → ⊥) → step U good b a ≡ record { report = refused n; after = b }
   unfolding step if_then_else_

@@ -9,10 +9,10 @@ use borrow.Author.Tests.{eqb-true, not-false}
 use Rattle.ground.specs.Choice.{if_then_else_}
 use Rattle.ground.specs.First.{Rule, refusal, applies}
 use Rattle.rules.specs.Supply.{Supply, Lawful}
-use Rattle.rules.specs.Letters.{Letter, P-put, Q-need, D-data, S-take, C-down, V-back, O-offer, K-ok, R-take, X-down, Y-back, L-lose, M-lose}
+use Rattle.rules.specs.Letters.{Letter, P-put, Q-need, D-data, S-take, C-down, V-back, O-offer, K-ok, R-take, X-down, Y-back, L-lose, M-lose, A-ack}
 use Rattle.rules.specs.Letters.{line}
 use Rattle.rules.specs.Ends.{ToController, ToConsole, ConsoleMode, in-needI, in-send, ControllerMode, in-accept, in-ack, ConsoleAct, put}
-use Rattle.rules.specs.Ends.{send-needI, send-data, ControllerAct, send-offer, send-ok, Report, nothing, delivered, answered-ok}
+use Rattle.rules.specs.Ends.{send-needI, send-data, tell-ack, ControllerAct, send-offer, send-ok, Report, nothing, delivered, answered-ok}
 use Rattle.rules.specs.Ends.{answered-lost, refused, puts, console-turn, controller-turn, console-power, controller-power, up-after}
 use Rattle.rules.specs.Ends.{end-after, absent, holding, console-rules, controller-rules, console-acts, controller-acts}
 use Rattle.rules.specs.Bench.{Bench, action, Outcome, console, controller, no-end, at, without, copies-of, asks, takes, taken-out, does}
@@ -67,7 +67,7 @@ module _ {M : Type 0} (w : Judge M) (n held x y : ℕ) (c : M) where
   R-controller (refused k) = refl
 
 -- a put reports nothing
-puts-says : {M : Type 0} (next : Option ℕ) (s : ConsoleMode M) (m : M) → puts next s m .report ≡ nothing
+pub puts-says : {M : Type 0} (next : Option ℕ) (s : ConsoleMode M) (m : M) → puts next s m .report ≡ nothing
 unfolding puts
 puts-says none s m = refl
 puts-says (some j) s m = refl
@@ -296,6 +296,14 @@ module _ {S M : Type 0} (U : Supply S) (laws : Lawful S U) (b : Bench S (Labelle
         (console-still F G w r (h .on) s _ (h .core) (h .ready-ups) (h .held) (data-sent-good (Up v) s (h .ready-ups)))
         (h .console) (k .to-console) (h .downs)
 
+    -- A sends nothing
+    pub A-keeps : Keeps A-ack
+    unfolding effect asks takes taken-out does console-acts console-turn up-after
+    A-keeps =
+        by-console tell-ack (b .toConsole) y none
+        (console-still F G w r (h .on) s _ (h .core) (h .ready-ups) (h .held) tt)
+        (h .console) (k .to-console) (h .downs)
+
     pub O-keeps : Keeps O-offer
     unfolding effect asks takes taken-out does controller-acts controller-turn up-after
     O-keeps =
@@ -332,6 +340,7 @@ module _ {S M : Type 0} (U : Supply S) (laws : Lawful S U) (b : Bench S (Labelle
           loses (without (b .toController) x) (b .toConsole) y (all-without _ (b .toController) x (h .ups)) (h .downs)
       effect-keeps M-lose e =
           loses (b .toController) (without (b .toConsole) x) y (h .ups) (all-without _ (b .toConsole) x (h .downs))
+      effect-keeps A-ack e = A-keeps
 
       -- the refused ones included
       pub step-keeps : (l : Letter)

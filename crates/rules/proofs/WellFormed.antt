@@ -11,9 +11,9 @@ use native.Mathlib.Omega.{arith}
 use Rattle.ground.specs.Choice.{if_then_else_}
 use Rattle.ground.specs.First.{refusal, applies}
 use Rattle.rules.specs.Supply.{Supply, Lawful}
-use Rattle.rules.specs.Letters.{Letter, P-put, Q-need, D-data, S-take, C-down, V-back, O-offer, K-ok, R-take, X-down, Y-back, L-lose, M-lose}
+use Rattle.rules.specs.Letters.{Letter, P-put, Q-need, D-data, S-take, C-down, V-back, O-offer, K-ok, R-take, X-down, Y-back, L-lose, M-lose, A-ack}
 use Rattle.rules.specs.Letters.{line}
-use Rattle.rules.specs.Ends.{ControllerActed, ConsoleActed, Console, Controller, ConsoleAct, put, send-needI, send-data, ControllerAct}
+use Rattle.rules.specs.Ends.{ControllerActed, ConsoleActed, Console, Controller, ConsoleAct, put, send-needI, send-data, tell-ack, ControllerAct}
 use Rattle.rules.specs.Ends.{console-turn, controller-turn, console-acts, controller-acts, console-rules}
 use Rattle.rules.specs.Bench.{Bench, Action, action, Outcome, at, without, copies-of, places, asks, takes, taken-out, does, effect, exceed}
 use Rattle.rules.specs.Bench.{end-rules, no-room, rules-of, step, run, fresh}
@@ -55,6 +55,7 @@ module _ {S M : Type 0} (U : Supply S) (laws : Lawful S U) where
     handed-good F G (ConsoleAct.take p) q h = h
     handed-good F G ConsoleAct.go-down q h = tt
     handed-good F G ConsoleAct.come-back q h = tt
+    handed-good F G tell-ack q h = tt
 
     abbrev Console-left : ConsoleActed S M → Type 0
     Console-left d = Console-ok U good (d .after) × Opt (To-controller-ok U good) (d .sent)
@@ -111,6 +112,7 @@ module _ {S M : Type 0} (U : Supply S) (b : Bench S M) where
   effect-room Y-back k n m e h = (h .0, as-before (b .toConsole) n none refl (h .1))
   effect-room L-lose k n m e h = (omega (arith, shorter (b .toController) k), h .1)
   effect-room M-lose k n m e h = (h .0, omega (arith, shorter (b .toConsole) k))
+  effect-room A-ack k n m e h = (as-before (b .toController) n none refl (h .0), h .1)
 
 -- ## The bench
 

@@ -5,7 +5,7 @@ use mathlib.Core.Path.{_≡_, refl}
 use mathlib.Core.Logic.{_↔_, inl, ⊎-elim}
 use mathlib.Core.Bool.{true}
 use mathlib.Core.Option.{Option·none-ne-some, Option·some-ne-none}
-use mathlib.Core.List.{List, [], _∷_, _++_, map}
+use mathlib.Core.List.{List, [], _∷_, map}
 use lib.ListN.{replicate}
 use lib.Dec.{eqb}
 use borrow.Author.Tests.{eqb-true, eq-eqb}
@@ -16,7 +16,7 @@ use Rattle.rules.specs.Bench.{Action, rules}
 use Rattle.rules.specs.Log.{Put, Delivered, AnsweredOK, AnsweredLost, ConsoleDown, ConsoleBack, ControllerDown, ControllerBack, Log, Right}
 use Rattle.rules.specs.Judge.{was-put, allows, accepts}
 use Rattle.rules.specs.Demand3.{rows, written, log}
-use Rattle.rules.specs.Starred.{Row, P, Q, D, S, C, «V», O, R, X, Y, _with_, a, b, start-filler, records-1-to-7}
+use Rattle.rules.specs.Starred.{Row, P, Q, D, S, C, «V», O, R, X, Y, _with_, a, b, start-filler, the-listing}
 use Rattle.rules.proofs.Accepts.{accepts-exactly}
 
 -- ## Wrong logs
@@ -118,7 +118,7 @@ old-order-delivered = accepts-exactly eqb same-number old-delivered .0 refl
 
 -- ## The log of the listing of document 01
 
-pub listing : log counted isMessage 0 0 (records-1-to-7 ++ S 0 ∷ R 0 with 1 ∷ S 0 ∷ [])
+pub listing : log counted isMessage 0 0 the-listing
     ≡ AnsweredOK 1 ∷ Delivered 1 start-filler ∷ Put 1 start-filler ∷ []
 unfolding written rows rules isMessage cells
 listing = refl

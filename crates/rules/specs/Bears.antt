@@ -1,7 +1,7 @@
 -- What ends and packets bear: J numbers, I numbers and messages; and facts of all that is borne. Assumes nothing.
 use Prim.Native.Nat.{ℕ}
 use Rattle.rules.specs.Ends.{ToController, needI, order, done, ToConsole, offer, ok, lost, ConsoleMode, in-needI, in-send, ControllerMode}
-use Rattle.rules.specs.Ends.{in-accept, in-ack, ConsoleAct, put, send-needI, send-data, ControllerAct, send-offer, send-ok}
+use Rattle.rules.specs.Ends.{in-accept, in-ack, ConsoleAct, put, send-needI, send-data, tell-ack, ControllerAct, send-offer, send-ok}
 use Rattle.rules.specs.Lists.{Opt}
 
 -- ## Every J there has the property F, every I the property G, every message the property P
@@ -37,6 +37,7 @@ module _ {M : Type 0} (F G : ℕ → Type 0) (P : M → Type 0) where
   ConsoleAct-bears (ConsoleAct.take p) = Opt (ToConsole-bears F G) p
   ConsoleAct-bears ConsoleAct.go-down = Unit {0}
   ConsoleAct-bears ConsoleAct.come-back = Unit {0}
+  ConsoleAct-bears tell-ack = Unit {0}
 
   abbrev pub ControllerAct-bears : ControllerAct M → Type 0
   ControllerAct-bears send-offer = Unit {0}

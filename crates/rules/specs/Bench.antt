@@ -1,4 +1,4 @@
--- The bench of document 01: two ends, two channels, the thirteen actions and their refusals. Assumes nothing.
+-- The bench of document 01: two ends, two channels, the fourteen actions and their refusals. Assumes nothing.
 use Prim.Native.Nat.{ℕ, _+_}
 use mathlib.Core.Path.{_≡_}
 use mathlib.Core.Bool.{Bool, true, false, _&&_}
@@ -10,11 +10,11 @@ use Rattle.ground.specs.Choice.{if_then_else_}
 use Rattle.ground.specs.First.{Rule, refusal}
 unfoldable pub use Rattle.ground.specs.Lists.{at, without}
 use Rattle.rules.specs.Supply.{Supply, next-counted}
-use Rattle.rules.specs.Letters.{Letter, ConsoleAsk, to-put, to-send-needI, to-send-data, ControllerAsk, to-send-offer, to-send-ok, Asks, the-console, the-controller, neither-end}
+use Rattle.rules.specs.Letters.{Letter, ConsoleAsk, to-put, to-send-needI, to-send-data, to-tell-ack, ControllerAsk, to-send-offer, to-send-ok, Asks, the-console, the-controller, neither-end}
 use Rattle.rules.specs.Letters.{line}
 pub use Rattle.rules.specs.Letters.{Taken, from-neither, from-toController, from-toConsole}
 use Rattle.rules.specs.Ends.{ToController, ToConsole, ConsoleMode, ControllerMode, Console, Controller, ConsoleAct, ControllerAct, put}
-use Rattle.rules.specs.Ends.{send-needI, send-data, send-offer, send-ok, Report, nothing, refused, absent, console-rules, controller-rules}
+use Rattle.rules.specs.Ends.{send-needI, send-data, tell-ack, send-offer, send-ok, Report, nothing, refused, absent, console-rules, controller-rules}
 use Rattle.rules.specs.Ends.{ConsoleActed, ControllerActed, console-acts, controller-acts, ends}
 
 -- ## Channels: lists of packets. New packets go to the end
@@ -71,6 +71,7 @@ module _ {S M : Type 0} where
   asked-to (the-console ConsoleAsk.to-take) b k m = console (ConsoleAct.take (at (b .toConsole) k))
   asked-to (the-console ConsoleAsk.to-go-down) b k m = console ConsoleAct.go-down
   asked-to (the-console ConsoleAsk.to-come-back) b k m = console ConsoleAct.come-back
+  asked-to (the-console to-tell-ack) b k m = console tell-ack
   asked-to (the-controller to-send-offer) b k m = controller send-offer
   asked-to (the-controller to-send-ok) b k m = controller send-ok
   asked-to (the-controller ControllerAsk.to-take) b k m = controller (ControllerAct.take (at (b .toController) k))

@@ -5,7 +5,7 @@ use mathlib.Core.Option.{Option, none, some, Option·map}
 use mathlib.Core.Path.{_≡_}
 use mathlib.Core.List.{List, [], _∷_, map}
 use Rattle.rules.specs.Supply.{Supply}
-use Rattle.rules.specs.Letters.{Letter, P-put, Q-need, D-data, S-take, C-down, V-back, O-offer, K-ok, R-take, X-down, Y-back, L-lose, M-lose}
+use Rattle.rules.specs.Letters.{Letter, P-put, Q-need, D-data, S-take, C-down, V-back, O-offer, K-ok, R-take, X-down, Y-back, L-lose, M-lose, A-ack}
 use Rattle.rules.specs.Ends.{ConsoleMode, in-needI, in-send, Report, nothing, delivered, answered-ok, answered-lost, refused}
 use Rattle.rules.specs.Bench.{Bench, Action, Outcome, step, reports, fresh}
 use Rattle.rules.specs.Relabel.{in-action, in-report}
@@ -30,6 +30,7 @@ module _ {M : Type 0} where
   acted n Y-back c = some ControllerBack
   acted n L-lose c = none
   acted n M-lose c = none
+  acted n A-ack c = none
 
   -- with its report. `held` is the number of the order that the console holds
   abbrev pub row : ℕ → ℕ → Action M → Report (Labelled M) → Option (Event M)

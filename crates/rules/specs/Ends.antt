@@ -46,12 +46,13 @@ Controller S = End S ControllerMode
 
 -- ## What an end is asked to do, and what comes of it
 
--- P Q D S C V. S is given the packet; a bench has none where the place is not below the count
+-- P Q D S C V A. S is given the packet; a bench has none where the place is not below the count
 pub data ConsoleAct (M : Type 0) : Type 0 where
   put : M → ConsoleAct M
   send-needI send-data : ConsoleAct M
   take : Option ToConsole → ConsoleAct M
   go-down come-back : ConsoleAct M
+  tell-ack : ConsoleAct M
 
 -- O K R X Y
 pub data ControllerAct (M : Type 0) : Type 0 where
@@ -164,6 +165,7 @@ module _ {M : Type 0} where
   console-turn next mode (take (some p)) = console-takes mode p
   console-turn next mode go-down = stays mode none
   console-turn next mode come-back = stays idle none
+  console-turn next mode tell-ack = stays mode none
 
   unfoldable pub controller-turn : Option ℕ → ControllerMode → ControllerAct M → ControllerTurn M
   controller-turn next mode send-offer = stays mode (offer-sent mode)
@@ -187,6 +189,7 @@ module _ {M : Type 0} where
   console-power (take p) = same
   console-power go-down = falls
   console-power come-back = returns
+  console-power tell-ack = same
 
   abbrev pub controller-power : ControllerAct M → Power
   controller-power send-offer = same
@@ -249,6 +252,7 @@ module _ {S M : Type 0} (U : Supply S) where
   console-rules good e (take p) = down-4 (e .up) ∷ []
   console-rules good e go-down = []
   console-rules good e come-back = up-5 (e .up) ∷ []
+  console-rules good e tell-ack = down-4 (e .up) ∷ (6, holding (e .mode)) ∷ []
 
   unfoldable pub controller-rules : Controller S → ControllerAct M → List Rule
   controller-rules e send-offer = down-4 (e .up) ∷ mode-6 (offer-sent (e .mode)) ∷ []

@@ -1,4 +1,4 @@
--- The thirteen letters: whom each asks, what it takes from a channel, and which fields of an action it uses. Assumes nothing.
+-- The fourteen letters, document 01's thirteen and request 2's A: whom each asks, what it takes from a channel, and which fields of an action it uses. Assumes nothing.
 use Prim.Native.Nat.{ℕ}
 use mathlib.Core.Bool.{Bool, true, false}
 use mathlib.Core.Option.{Option, none, some}
@@ -7,11 +7,11 @@ use lib.Dec.{eqb}
 use Rattle.ground.specs.Choice.{if_then_else_}
 
 pub data Letter : Type 0 where
-  P-put Q-need D-data S-take C-down V-back O-offer K-ok R-take X-down Y-back L-lose M-lose : Letter
+  P-put Q-need D-data S-take C-down V-back O-offer K-ok R-take X-down Y-back L-lose M-lose A-ack : Letter
 
 -- what the console, or the controller, can be asked to do
 pub data ConsoleAsk : Type 0 where
-  to-put to-send-needI to-send-data to-take to-go-down to-come-back : ConsoleAsk
+  to-put to-send-needI to-send-data to-take to-go-down to-come-back to-tell-ack : ConsoleAsk
 
 pub data ControllerAsk : Type 0 where
   to-send-offer to-send-ok to-take to-go-down to-come-back : ControllerAsk
@@ -55,11 +55,12 @@ line X-down = row 0x58 (the-controller ControllerAsk.to-go-down) from-neither fa
 line Y-back = row 0x59 (the-controller ControllerAsk.to-come-back) from-neither false false false
 line L-lose = row 0x4C neither-end from-toController true false false
 line M-lose = row 0x4D neither-end from-toConsole true false false
+line A-ack = row 0x41 (the-console to-tell-ack) from-neither false false false
 
 -- the table's order
 unfoldable pub letters : List Letter
 letters =
-    P-put ∷ Q-need ∷ D-data ∷ S-take ∷ C-down ∷ V-back ∷ O-offer ∷ K-ok ∷ R-take ∷ X-down ∷ Y-back ∷ L-lose ∷ M-lose ∷ []
+    P-put ∷ Q-need ∷ D-data ∷ S-take ∷ C-down ∷ V-back ∷ O-offer ∷ K-ok ∷ R-take ∷ X-down ∷ Y-back ∷ L-lose ∷ M-lose ∷ A-ack ∷ []
 
 unfoldable pub among : List Letter → ℕ → Option Letter
 among [] b = none

@@ -9,6 +9,11 @@ pub mod Log
 pub mod Offered
 pub mod Plain
 pub mod Radio
+pub mod ReadDemand3
+pub mod ReadLog
+pub mod ReadPlain
+pub mod ReadRadio
+pub mod Reading
 pub mod Relabel
 pub mod Starred
 pub mod Supply

@@ -2,7 +2,7 @@
 use mathlib.Core.Option.{Option·map}
 use mathlib.Core.List.{map}
 use Rattle.rules.specs.Ends.{ToController, needI, order, done, ConsoleMode, in-needI, in-send, Console, Report, nothing, delivered}
-use Rattle.rules.specs.Ends.{answered-ok, answered-lost, refused, ConsoleAct, put, send-needI, send-data, ControllerAct, send-offer, send-ok}
+use Rattle.rules.specs.Ends.{answered-ok, answered-lost, refused, ConsoleAct, put, send-needI, send-data, tell-ack, ControllerAct, send-offer, send-ok}
 use Rattle.rules.specs.Ends.{ConsoleActed, ControllerActed}
 use Rattle.rules.specs.Bench.{Bench, Action, Outcome}
 
@@ -28,6 +28,7 @@ module _ {M N : Type 0} (f : M → N) where
   in-console-act (ConsoleAct.take p) = ConsoleAct.take p
   in-console-act ConsoleAct.go-down = ConsoleAct.go-down
   in-console-act ConsoleAct.come-back = ConsoleAct.come-back
+  in-console-act tell-ack = tell-ack
 
   abbrev pub in-controller-act : ControllerAct M → ControllerAct N
   in-controller-act send-offer = send-offer

@@ -1,6 +1,6 @@
 -- `alone::console::does` meets its contract: by what is asked.
 use borrow.Author.Needs.{needs}
-use Rattle.alone.proofs.ConsoleAlone.{does-put, does-needI, does-data, does-take, does-down, does-back}
+use Rattle.alone.proofs.ConsoleAlone.{does-put, does-needI, does-data, does-take, does-down, does-back, does-tell}
 use Rattle.alone.proofs.ConsoleWritable.{needI-writable, data-writable}
 use Rattle.alone.proofs.console.does.Statement.{statement}
 use Rattle.alone.proofs.console.does.Tie as tie
@@ -24,6 +24,8 @@ does-spec =
     (λ c κs. search needs)  -- goes-down-requires
     (λ c. search needs)  -- enum-told-6
     (λ c κs. search needs)  -- comes-back-requires
+    (λ c. search needs)  -- enum-told-7
+    (λ c κs. search needs)  -- tells-requires
     (λ c. search does-put)  -- returns
     (λ c. search needs)  -- same-length
     (λ c. search does-needI)  -- returns-2
@@ -33,4 +35,5 @@ does-spec =
     (λ c. search does-take)  -- returns-4
     (λ c. search does-down)  -- returns-5
     (λ c. search does-back)  -- returns-6
+    (λ c. search does-tell)  -- returns-7
     )

@@ -9,6 +9,7 @@ replies-spec =
     tie.close
     (tie.spec
     (λ c κs. search needs)  -- send-requires
+    (λ c κs. search needs)  -- shows-requires
     (λ c κs. search needs)  -- console-of-requires
     (λ c. search needs)  -- same-length
     (λ c. search replies)  -- returns

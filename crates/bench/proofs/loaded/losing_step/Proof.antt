@@ -11,10 +11,12 @@ losing-step-spec =
     (λ c κs. search needs)
     (λ c κs. (search known-modes, search on-losing))
     (λ c κs. search needs)
+    (λ c κs. search needs)
     (λ c. search needs)
     (λ c. search needs)
     (λ c.
-    let told = c .before .before .before .before .before in
+    let shown = c .before in
+    let told = shown .before .before .before .before .before in
     let offered = told .before .before .before in
     let start = offered .before .before .before .before .before .before in
-    losing-stepped _ _ _ (start .pre .0) _ _ (start .pre .1 .0) (start .pre .1 .1) (offered .offers .ensures) _ _ _ (told .loses .ensures) (c .moved .ensures)))
+    losing-stepped _ _ _ (start .pre .0) _ _ (start .pre .1 .0) (start .pre .1 .1) (offered .offers .ensures) _ _ _ (told .loses .ensures) (shown .as-it-is .ensures) (c .moved .ensures)))

@@ -16,6 +16,9 @@ console-at-spec =
     (λ c. search needs)  -- shared-slice-read-if3
     (λ c κs. search needs)  -- no-console-requires-3
     (λ c. search console-reads)  -- returns-3
-    (λ c κs. search needs)  -- fields-at-requires
+    (λ c. search needs)  -- shared-slice-read-if4
+    (λ c κs. search needs)  -- no-console-requires-4
     (λ c. search console-reads)  -- returns-4
+    (λ c κs. search needs)  -- fields-at-requires
+    (λ c. search console-reads)  -- returns-5
     )

@@ -14,5 +14,6 @@ fields-at-spec =
     (λ c κs. search needs)  -- message-at-requires
     (λ c. search needs)  -- shared-slice-read-t8
     (λ c. search needs)  -- shared-slice-read-t11
+    (λ c. search needs)  -- shared-slice-read-t13
     (λ c. search console-fields)  -- returns
     )

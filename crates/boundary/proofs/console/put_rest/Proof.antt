@@ -1,6 +1,6 @@
 -- `boundary::console::put_rest` meets its contract: three parts, one after another.
 use borrow.Author.Needs.{needs}
-use Rattle.boundary.proofs.Writing.{three-parts, filled, filled-two}
+use Rattle.boundary.proofs.Writing.{three-parts, filled, filled-three}
 use Rattle.boundary.proofs.console.put_rest.Statement.{statement}
 use Rattle.boundary.proofs.console.put_rest.Tie as tie
 
@@ -12,6 +12,7 @@ put-rest-spec =
     (λ c κs. search needs)  -- big-endian-requires-2
     (λ c κs. search needs)  -- flag-requires
     (λ c κs. search needs)  -- flag-requires-2
+    (λ c κs. search needs)  -- flag-requires-3
     (λ c. search needs)  -- sub-fill
     (λ c. search needs)  -- part-fill-start
     (λ c. search needs)  -- part-fill-end
@@ -28,5 +29,5 @@ put-rest-spec =
     (λ c. search needs)  -- slice-aggregate-fill-3
     (λ c κs. search needs)  -- fill-requires-3
     (λ c. search needs)  -- same-length
-    (λ c. search (three-parts, filled, filled-two, needs))  -- returns
+    (λ c. search (three-parts, filled, filled-three, needs))  -- returns
     )

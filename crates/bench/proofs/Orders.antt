@@ -23,6 +23,7 @@ use Rattle.rules.specs.ReadLog.{Right-read}
 use Rattle.rules.specs.ReadDemand3.{labelled-read-step, read-row-of, read-rows, its-answer, waits-after, lost-if-spare, firsts, spares-lost}
 use Rattle.rules.specs.ReadPlain.{Plain-read}
 use Rattle.rules.proofs.ReadPlain.{right-read-plain}
+use Rattle.rules.proofs.ReadRows.{none-kept}
 use Rattle.rules.specs.WellFormed.{Well-formed}
 use Rattle.rules.proofs.Blocks.{demand3-blocks, demand3-read-messages}
 use Rattle.numbers.proofs.Range.{fresh-sound}
@@ -128,10 +129,6 @@ module _ (f : Option (Event (List ℕ)) → Option (Event (List ℕ))) (f-none :
       one none os more = ap₂ (λ (y : Option (Event (List ℕ))) (z : Rows). y ∷ z) f-none (more os)
       one (some x) [] more = ap₂ (λ (y : Option (Event (List ℕ))) (z : Rows). y ∷ z) f-none (more [])
       one (some x) (o ∷ os) more = ap (λ (z : Rows). f o ∷ z) (more os)
-
-none-kept : (waits : Bool) → its-answer {M = List ℕ} waits none ≡ none
-none-kept true = refl
-none-kept false = refl
 
 firsts-spread : (waits : Bool) (l : List Action) (os : Rows) → firsts waits (spread l os) ≡ spread l (firsts waits os)
 unfolding spread firsts

@@ -27,8 +27,8 @@ use Rattle.rules.specs.Radio.{Link, Happening, aired, keeps, fails, happens}
 use Rattle.rules.proofs.Supply.{numbering-lawful, back-is-reserved, back-again}
 use Rattle.rules.proofs.Lists.{if-holds}
 use Rattle.rules.proofs.Relabel.{map-append}
-use Rattle.rules.proofs.Ends.{console-reports, controller-reports}
-use Rattle.rules.proofs.Said.{No-answer, said-as-it-is, ack-as-it-is}
+use Rattle.rules.proofs.Ends.{console-reports}
+use Rattle.rules.proofs.Said.{controller-no-answer, said-as-it-is, ack-as-it-is}
 use Rattle.rules.proofs.ReadPlain.{right-read-plain}
 use Rattle.rules.proofs.Radio.{radio-right}
 use Rattle.rules.proofs.ReadRadio.{radio-right-read}
@@ -145,13 +145,6 @@ said-no-delivery Use.leaves ack rules.nothing h = tt
 said-no-delivery Use.clears ack rules.nothing h = tt
 said-no-delivery Use.tells true rules.nothing h = tt
 said-no-delivery Use.tells false rules.nothing h = tt
-
--- a controller answers nothing
-controller-quiet : (e : rules.Controller Numbers) (act : rules.ControllerAct Row) → No-answer (rules.controller-step numbering e act .report)
-unfolding rules.controller-step
-controller-quiet e act =
-    if-holds (λ (d : rules.ControllerActed Numbers Row). No-answer (d .report)) (eqb (refusal (rules.controller-rules numbering e act)) 0) _ _
-    (λ p. controller-reports No-answer tt (λ m. tt) numbering e act) (λ p. tt)
 
 console-shown : (byte x : ℕ) (m : Row) (l : Letter) → letter byte ≡ some l → (r : rules.Report Row) → No-delivery r → shown (bench.action l x 0 m) r ≡ called byte m (reportBack r) []
 console-shown byte x m l e rules.nothing h = rw e
@@ -338,7 +331,7 @@ module _ (r : Here) (ok : Ok (r .history)) (kept : Kept (r .history)) (byte : �
   unfolding read-happens ack-after happens fails keeps aired
   controller-acted through x e p act q =
       let d = rules.controller-step numbering (l .bench .controller) act in
-      let quiet = controller-quiet (l .bench .controller) act in
+      let quiet = controller-no-answer numbering (l .bench .controller) act in
       inr (
         radio.acts (bench.action x p 0 []),
         (

@@ -1,12 +1,13 @@
 -- Lists: what is in a list that was mapped, rows written after a change of each, and rows with those that are none left out.
 use mathlib.Core.Path.{_≡_, refl, sym, ap, subst, _∙_}
 use mathlib.Core.Logic.{inl, inr}
-use mathlib.Core.Bool.{Bool, true, false, _&&_}
+use mathlib.Core.Bool.{Bool, _&&_}
 use mathlib.Core.Option.{Option, none, some, Option·map}
 use mathlib.Core.List.{List, [], _∷_, map}
 use Rattle.rules.specs.Lists.{All, In}
 use Rattle.rules.specs.Log.{Event, Log}
 use Rattle.rules.specs.Demand3.{write, written}
+use Rattle.rules.proofs.ReadRows.{none-kept}
 use Rattle.rules.specs.ReadDemand3.{its-answer, waits-after, lost-if-spare, firsts, spares-lost}
 
 module _ {A B : Type 0} (f : A → B) where
@@ -41,10 +42,6 @@ module _ {M : Type 0} where
   -- the first answers among them
   unfoldable first-ones : Bool → List (Event M) → List (Option (Event M))
   first-ones waits l = firsts waits (map some l)
-
-  none-kept : (waits : Bool) → its-answer {M = M} waits none ≡ none
-  none-kept true = refl
-  none-kept false = refl
 
   firsts-happened : (waits : Bool) (os : List (Option (Event M))) (past : Log M) → written (firsts waits os) past ≡ written (first-ones waits (happened os)) past
   unfolding firsts written happened first-ones

@@ -26,14 +26,13 @@ use Rattle.rules.proofs.Lists.{all-map, if-holds}
 use Rattle.rules.proofs.Numbers.{Borne-by-all, used-tracked}
 use Rattle.rules.proofs.Bears.{console-grows, controller-grows}
 use Rattle.rules.proofs.BenchBears.{Bench-bears, Handed, asks-handed, does-bears, weaken-toController, weaken-toConsole, weaken-console, weaken-controller, unchanged}
-use Rattle.rules.proofs.Ends.{controller-reports}
 use Rattle.rules.proofs.Relabel.{in-asked, nat-asks, nat-console-step, nat-controller-step, map-append, map-copies}
 use Rattle.rules.proofs.Judge.{Accepted, accepted-right, counted-puts}
 use Rattle.rules.proofs.Invariant.{Inv}
 use Rattle.rules.proofs.RunAccepted.{Kept, write-accepted, judge-write, fresh-kept}
 use Rattle.rules.proofs.Plain.{right-plain}
 use Rattle.rules.proofs.Demand3.{bare, row-shown}
-use Rattle.rules.proofs.Said.{No-answer}
+use Rattle.rules.proofs.Said.{No-answer, controller-no-answer}
 use Rattle.rules.proofs.RadioSteps.{aired-is, aired-keeps}
 
 -- ## A step of one end keeps what holds between two steps
@@ -160,13 +159,6 @@ module _ {S M : Type 0} (U : Supply S) (good : M → Bool) where
   controller-same g e act h =
       alike-either ControllerMode.idle (λ g e. Controller-same g e act) (λ e. same-self _ _) (λ s k. down-controller s k act) g e h
 
-  -- a controller answers nothing
-  controller-no-answer : (e : Controller S) (act : ControllerAct M) → No-answer (controller-step U e act .report)
-  unfolding controller-step
-  controller-no-answer e act =
-      if-holds (λ (d : ControllerActed S M). No-answer (d .report)) (eqb (refusal (controller-rules U e act)) 0) _ _
-      (λ p. controller-reports No-answer tt (λ m. tt) U e act) (λ p. tt)
-
 -- ## The link follows a bench in which a downed end still has all it had
 
 module _ {S M : Type 0} where
@@ -287,7 +279,7 @@ module _ {S M : Type 0} (U : Supply S) (laws : Lawful S U) (good : M → Bool) w
           ghost-controller = d .after;
           holds =
               subst (λ (z : Option (Event M)). Kept U laws good (write z past) (left (d′ .sent)))
-              (row-same (d .report) (inr (controller-no-answer U (fit good) r act)) ∙ ap (row n (held-label (l .bench .console .mode)) a) (same .report))
+              (row-same (d .report) (inr (controller-no-answer U r act)) ∙ ap (row n (held-label (l .bench .console .mode)) a) (same .report))
               (subst (λ (p : Option ToConsole). Kept U laws good (write (row n (held-label (c .mode)) a (d .report)) past) (left p)) (same .sent) (followed (controller act) e));
           console = f .console;
           controller = same .after;

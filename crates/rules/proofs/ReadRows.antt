@@ -20,7 +20,7 @@ use Rattle.rules.specs.ReadLog.{unanswered, Fits-read, Right-read}
 use Rattle.rules.specs.ReadDemand3.{read-row, waits-after, its-answer, firsts, lost-if-spare, spares-lost}
 use Rattle.rules.proofs.Relabel.{in-asked}
 use Rattle.rules.proofs.Demand3.{bare}
-use Rattle.rules.proofs.Readings.{Reads, No-answer, ack-row, row-fits, row-reads, ok-arrives, lost-arrives, answer, A-tells, ok-is-awaited}
+use Rattle.rules.proofs.Readings.{Reads, Other-row, ack-row, row-fits, row-reads, ok-arrives, lost-arrives, answer, A-tells, ok-is-awaited}
 
 -- ## Rows and what is shown of them
 
@@ -80,7 +80,7 @@ module _ {M : Type 0} where
     pub goes : Goes h p row o′ s (after .ack)
 
   -- a row that is no answer is shown whether a put waits or not
-  its-own : (w : Bool) (e : Event M) → No-answer e → some (unnumbered e) ≡ its-answer w (some (unnumbered e))
+  its-own : (w : Bool) (e : Event M) → Other-row e → some (unnumbered e) ≡ its-answer w (some (unnumbered e))
   its-own true e s = refl
   its-own false (Put n c) s = refl
   its-own false (Delivered n c) s = refl
@@ -91,7 +91,7 @@ module _ {M : Type 0} where
   its-own false ControllerDown s = refl
   its-own false ControllerBack s = refl
 
-  row-shows : (p : Log M) (e : Event M) → No-answer e → Fits-read p e → Shows p (some e) (some (unnumbered e))
+  row-shows : (p : Log M) (e : Event M) → Other-row e → Fits-read p e → Shows p (some e) (some (unnumbered e))
   row-shows p (Put n c) s f = record { fits = f; own = its-own (awaits p) (Put n c) s; spare = refl; waits = refl }
   row-shows p (Delivered n c) s f = record { fits = f; own = its-own (awaits p) (Delivered n c) s; spare = refl; waits = refl }
   row-shows p (AnsweredOK n) s f = absurd (s n refl)
@@ -101,12 +101,12 @@ module _ {M : Type 0} where
   row-shows p ControllerDown s f = record { fits = f; own = its-own (awaits p) ControllerDown s; spare = refl; waits = refl }
   row-shows p ControllerBack s f = record { fits = f; own = its-own (awaits p) ControllerBack s; spare = refl; waits = refl }
 
+  pub none-kept : (w : Bool) → its-answer {M = M} w none ≡ none
+  none-kept true = refl
+  none-kept false = refl
+
   nothing-shows : (p : Log M) → Shows p none none
-  nothing-shows p = record { fits = tt; own = test (awaits p); spare = refl; waits = refl }
-    where
-      test : (w : Bool) → none ≡ its-answer {M = M} w none
-      test true = refl
-      test false = refl
+  nothing-shows p = record { fits = tt; own = sym (none-kept (awaits p)); spare = refl; waits = refl }
 
   -- what A tells is shown; an OK is some put's
   answered : Bool → Event M
@@ -133,7 +133,7 @@ module _ {M : Type 0} (h p : Log M) (ack : Bool) (r : Reads h p ack) where
   still = record { shows = nothing-shows p; reads = r }
 
   -- a row that is no answer
-  pub left : (e : Event M) → No-answer e → Fits h e → Goes h p (some e) (some e) (some (unnumbered e)) (ack-row e ack)
+  pub left : (e : Event M) → Other-row e → Fits h e → Goes h p (some e) (some e) (some (unnumbered e)) (ack-row e ack)
   left e s f = record { shows = row-shows p e s (row-fits r e s f); reads = row-reads r e s f }
 
   -- an answer arrives

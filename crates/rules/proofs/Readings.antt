@@ -195,11 +195,11 @@ module _ {M : Type 0} where
     ⊎-elim (λ t. inl (subst T fall t)) (λ i. inr (inr i)) why,
   )
 
-  abbrev pub No-answer : Event M → Type 0
-  No-answer e = (n : ℕ) → Answer n e → ⊥
+  abbrev pub Other-row : Event M → Type 0
+  Other-row e = (n : ℕ) → Answer n e → ⊥
 
 module _ {M : Type 0} {h p : Log M} {ack : Bool} (r : Reads h p ack) where
-  pub row-fits : (e : Event M) → No-answer e → Fits h e → Fits-read p e
+  pub row-fits : (e : Event M) → Other-row e → Fits h e → Fits-read p e
   row-fits (Put n c) s f = record { by-one-up = subst T (r .alike .same .console) (f .by-one-up); counted = f .counted ∙ ap suc (r .alike .same .count) }
   row-fits (Delivered n c) s f =
       record {
@@ -215,11 +215,11 @@ module _ {M : Type 0} {h p : Log M} {ack : Bool} (r : Reads h p ack) where
   row-fits ControllerDown s f = tt
   row-fits ControllerBack s f = subst (λ b. T (not b)) (r .alike .same .controller) f
 
-  losses-row : (e : Event M) → No-answer e → Losses (e ∷ h) (e ∷ p)
+  losses-row : (e : Event M) → Other-row e → Losses (e ∷ h) (e ∷ p)
   losses-row e s =
       losses-on (e ∷ h) p e (λ n q. absurd (s n (subst (Answer n) (sym q) refl))) (losses-arrived h p e (r .losses))
 
-  pub row-reads : (e : Event M) → No-answer e → Fits h e → Reads (e ∷ h) (e ∷ p) (ack-row e ack)
+  pub row-reads : (e : Event M) → Other-row e → Fits h e → Reads (e ∷ h) (e ∷ p) (ack-row e ack)
   row-reads (Put n c) s f =
       record {
         alike = alike-row h p (Put n c) (r .alike);

@@ -3,11 +3,15 @@
 use Prim.Native.Nat.{ℕ}
 use mathlib.Core.Path.{_≡_, refl, sym, subst}
 use mathlib.Core.Bool.{Bool, true, false}
+use lib.Dec.{eqb}
+use Rattle.ground.specs.First.{refusal}
 use Rattle.rules.specs.Supply.{Supply}
 use Rattle.rules.specs.Letters.{Letter, P-put, Q-need, D-data, S-take, C-down, V-back, O-offer, K-ok, R-take, X-down, Y-back, L-lose, M-lose, A-ack}
 use Rattle.rules.specs.Bench.{Bench, Action, asks, step}
-use Rattle.rules.specs.Ends.{Report, nothing, delivered, answered-ok, answered-lost, refused}
+use Rattle.rules.specs.Ends.{Controller, ControllerAct, Report, nothing, delivered, answered-ok, answered-lost, refused, ControllerActed, controller-rules, controller-step}
 use Rattle.rules.specs.Reading.{Use, leaves, clears, tells, use-by, said, ack-after, Reading, read-step}
+use Rattle.rules.proofs.Lists.{if-holds}
+use Rattle.rules.proofs.Ends.{controller-reports}
 
 module _ {M : Type 0} where
   abbrev Refuses : Report M → Type 0
@@ -54,6 +58,13 @@ module _ {M : Type 0} where
   ack-as-it-is ack answered-ok h = absurd h
   ack-as-it-is ack answered-lost h = absurd h
   ack-as-it-is ack (refused n) h = refl
+
+  -- a controller answers nothing
+  pub controller-no-answer : {S : Type 0} (U : Supply S) (e : Controller S) (act : ControllerAct M) → No-answer (controller-step U e act .report)
+  unfolding controller-step
+  controller-no-answer {S} U e act =
+      if-holds (λ (d : ControllerActed S M). No-answer (d .report)) (eqb (refusal (controller-rules U e act)) 0) _ _
+      (λ p. controller-reports No-answer tt (λ m. tt) U e act) (λ p. tt)
 
   -- ## Only A tells an answer
 

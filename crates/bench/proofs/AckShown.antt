@@ -4,8 +4,7 @@ use mathlib.Core.Path.{_≡_, refl, sym, ap, subst, _∙_}
 use mathlib.Core.Bool.{Bool, true, false}
 use mathlib.Core.List.{List}
 use Rattle.ground.specs.Cell.{isMessage}
-use Rattle.rules.specs.Supply as supply
-use Rattle.rules.specs.Supply.{numbering}
+use Rattle.rules.specs.Supply.{Supply}
 use Rattle.rules.specs.Letters as letters
 use Rattle.rules.specs.Ends as ends
 use Rattle.rules.specs.Bench as rules
@@ -23,11 +22,11 @@ use Rattle.ends_console.proofs.ShownReport.{acked-is}
 use Rattle.channels.specs.Packets.{toControllerBytes, toConsoleBytes}
 use Rattle.channels.specs.Table.{channel}
 use Rattle.bench.specs.ByModes.{RulesOutcome, shownOf}
-use Rattle.bench.specs.Loaded.{ReadOutcome, readOf}
+use Rattle.bench.specs.WithNumbers.{ReadOutcome, readOf}
 
 -- ## What is shown of an outcome of the history
 
-abbrev pub shownWith : Use → Bool → RulesOutcome supply.Numbers → ReadOutcome
+abbrev pub shownWith : {S : Type 0} → Use → Bool → RulesOutcome S → ReadOutcome S
 shownWith u ack x =
     let s = acked u ack (x .report) in
     record { report = s .report; message = x .message; after = reading (x .after) (s .ack); out = x .out; back = x .back }
@@ -44,7 +43,7 @@ said-message clears ack ends.nothing = refl
 said-message tells true ends.nothing = refl
 said-message tells false ends.nothing = refl
 
-pub read-shown : (u : Use) (ack : Bool) (o : rules.Outcome supply.Numbers (List ℕ)) → shownWith u ack (shownOf o) ≡ readOf (read u ack (o .report) (o .after))
+pub read-shown : {S : Type 0} (u : Use) (ack : Bool) (o : rules.Outcome S (List ℕ)) → shownWith u ack (shownOf o) ≡ readOf (read u ack (o .report) (o .after))
 unfolding shownOf readOf
 read-shown u ack o =
     λ i.
@@ -57,10 +56,10 @@ read-shown u ack o =
     }
 
 -- where no answer arrives it is shown as it is
-abbrev pub keptWith : Bool → RulesOutcome supply.Numbers → ReadOutcome
+abbrev pub keptWith : {S : Type 0} → Bool → RulesOutcome S → ReadOutcome S
 keptWith ack x = record { report = x .report; message = x .message; after = reading (x .after) ack; out = x .out; back = x .back }
 
-pub read-kept : (ack : Bool) (o : rules.Outcome supply.Numbers (List ℕ)) → No-answer (o .report) → keptWith ack (shownOf o) ≡ readOf (read leaves ack (o .report) (o .after))
+pub read-kept : {S : Type 0} (ack : Bool) (o : rules.Outcome S (List ℕ)) → No-answer (o .report) → keptWith ack (shownOf o) ≡ readOf (read leaves ack (o .report) (o .after))
 unfolding shownOf readOf
 read-kept ack o h =
     λ i.
@@ -84,7 +83,7 @@ Elsewhere (asks.Console ask) = ⊥
 Elsewhere (asks.Controller ask) = Unit {0}
 Elsewhere asks.NoEnd = Unit {0}
 
-module _ (b : rules.Bench supply.Numbers (List ℕ)) (k n : ℕ) (m : List ℕ) where
+module _ {S : Type 0} (U : Supply S) (b : rules.Bench S (List ℕ)) (k n : ℕ) (m : List ℕ) where
   use-by-letter : (l : letters.Letter) → use-by (rules.asks b l k m) ≡ useOf (lineOf l .asks)
   unfolding lineOf letters.line rules.asks
   use-by-letter letters.P-put = refl
@@ -102,10 +101,10 @@ module _ (b : rules.Bench supply.Numbers (List ℕ)) (k n : ℕ) (m : List ℕ) 
   use-by-letter letters.M-lose = refl
   use-by-letter letters.A-ack = refl
 
-  controller-quiet : (act : ends.ControllerAct (List ℕ)) → No-answer (ends.controller-acts numbering (b .controller) act .report)
-  controller-quiet act = controller-reports No-answer tt (λ x. tt) numbering (b .controller) act
+  controller-quiet : (act : ends.ControllerAct (List ℕ)) → No-answer (ends.controller-acts U (b .controller) act .report)
+  controller-quiet act = controller-reports No-answer tt (λ x. tt) U (b .controller) act
 
-  effect-quiet : (l : letters.Letter) → Elsewhere (lineOf l .asks) → No-answer (rules.effect numbering b (rules.action l k n m) .report)
+  effect-quiet : (l : letters.Letter) → Elsewhere (lineOf l .asks) → No-answer (rules.effect U b (rules.action l k n m) .report)
   unfolding lineOf letters.line rules.effect rules.does rules.asks rules.takes rules.taken-out
   effect-quiet letters.P-put h = absurd h
   effect-quiet letters.Q-need h = absurd h
@@ -127,8 +126,8 @@ module _ (b : rules.Bench supply.Numbers (List ℕ)) (k n : ℕ) (m : List ℕ) 
     unfolding Lined
     use-by-line = use-by-letter (letterOf line) ∙ ap (λ (x : Line). useOf (x .asks)) (sym lined)
 
-    pub step-quiet : Elsewhere (line .asks) → No-answer (rules.step numbering isMessage b (rules.action (letterOf line) k n m) .report)
+    pub step-quiet : Elsewhere (line .asks) → No-answer (rules.step U isMessage b (rules.action (letterOf line) k n m) .report)
     unfolding Lined rules.step
     step-quiet h =
-        if-holds (λ (o : rules.Outcome supply.Numbers (List ℕ)). No-answer (o .report)) _ _ _
+        if-holds (λ (o : rules.Outcome S (List ℕ)). No-answer (o .report)) _ _ _
         (λ e. effect-quiet (letterOf line) (subst (λ (x : Line). Elsewhere (x .asks)) lined h)) (λ e. tt)

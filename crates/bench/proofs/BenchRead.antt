@@ -22,7 +22,8 @@ use Rattle.channels.specs.Table.{tableOk}
 use Rattle.channels.proofs.Channel.{packets-good, packets-length, channel-packets, table-facts}
 use Rattle.channels.proofs.Packets.{to-controller-coded, to-console-coded}
 use Rattle.bench.specs.AsRules.{benchOk}
-use Rattle.bench.specs.Loaded.{Well, loadedMeans, loadedOf, Typed}
+use Rattle.bench.specs.WithNumbers.{withNumbers}
+use Rattle.bench.specs.Loaded.{Well, loadedOf, Typed}
 use Rattle.bench.specs.declared.Bench.{Bench}
 use Rattle.bench.specs.declared.loaded.Loaded.{Loaded}
 
@@ -55,7 +56,7 @@ module _ (b : Bench) (out back : List ℕ) {e : console-end.End} {f : controller
         λ i. loadedOf (sym (console-fields.was-read (b .console) r .1) i) (b .console .ack) (b .console .message) (sym (controller-fields.was-read (b .controller) s .1) i) (b .sent) (b .returned)
 
     well : Typed (b .console) (b .controller) → Bytes out → Bytes back → Well (loadedOf (consoleEnd (b .console)) (b .console .ack) (b .console .message) (controllerEnd (b .controller)) (b .sent) (b .returned)) out back
-    unfolding loadedOf loadedMeans
+    unfolding loadedOf withNumbers
     well typed p q =
         record {
           well-formed =

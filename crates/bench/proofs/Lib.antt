@@ -9,6 +9,7 @@ pub mod ListVectors
 pub mod Listed
 pub mod LostByModes
 pub mod NumbersMoved
+pub mod NumbersOffered
 pub mod Offers
 pub mod Orders
 pub mod PacketAtPlace

@@ -34,7 +34,8 @@ use Rattle.bench.specs.Promise.{Result, benchRefused, benchTold, benchSt
 use Rattle.bench.specs.Reports.{letterCell, reportCells, reportLine}
 use Rattle.bench.specs.Running.{usesOf, actionWith, actionAs, listAction, playedAs, played}
 use Rattle.bench.specs.ByModes.{actionOf}
-use Rattle.bench.specs.Loaded.{Well, ReadOutcome, steppedAs, readOf, loadedMeans, loadedReads, loadedStep, benchOf, outcomeOf, FoundLined, recordOutcome, lineStep, recordStep, Played}
+use Rattle.bench.specs.WithNumbers.{ReadOutcome, readOf, stepWith}
+use Rattle.bench.specs.Loaded.{Well, steppedAs, loadedMeans, loadedReads, loadedStep, benchOf, outcomeOf, FoundLined, recordOutcome, lineStep, recordStep, Played}
 use Rattle.bench.specs.declared.Bench.{Bench}
 use Rattle.bench.specs.declared.loaded.Loaded.{Loaded}
 use Rattle.bench.specs.declared.loaded.Stepped.{Stepped}
@@ -57,8 +58,8 @@ module _ (b : Loaded) (out back s : List ℕ) (k : Well b out back) where
     unfolding lineStep if_then_else_
     line-refused f q = refused-1 q ∙ rw (← e, f)
 
-    pub line-played : {w : ReadOutcome} → r .fits ≡ true → w ≡ loadedStep b out back l (actionWith l r) → w ≡ lineStep b out back l s
-    unfolding lineStep loadedStep if_then_else_
+    pub line-played : {w : ReadOutcome Numbers} → r .fits ≡ true → w ≡ loadedStep b out back l (actionWith l r) → w ≡ lineStep b out back l s
+    unfolding lineStep stepWith if_then_else_
     line-played f q = q ∙ rw (← e, f)
 
   module _ {f : Found} (e : f ≡ foundOf (letter (getD s 0 0))) where
@@ -66,7 +67,7 @@ module _ (b : Loaded) (out back s : List ℕ) (k : Well b out back) where
     unfolding recordStep
     play-refused h q = refused-1 q ∙ ap (λ (x : Found). readOf (recordOutcome x s b out back)) (sym h ∙ e)
 
-    pub play-line : {l : Line} {w : ReadOutcome} → f ≡ found.Line l → w ≡ lineStep b out back l s → w ≡ recordStep b out back s
+    pub play-line : {l : Line} {w : ReadOutcome Numbers} → f ≡ found.Line l → w ≡ lineStep b out back l s → w ≡ recordStep b out back s
     unfolding recordStep lineStep
     play-line h q = q ∙ ap (λ (x : Found). readOf (recordOutcome x s b out back)) (sym h ∙ e)
 
@@ -92,11 +93,11 @@ outcome-ok (found.Line l) s b out back k =
 known-after : (t : Stepped) (out back : List ℕ) (o : Read (rules.Bench Numbers (List ℕ)) (List ℕ)) → Well-formed numbering isMessage (o .after .history) → steppedAs t out back ≡ readOf o → Well (t .after) out back
 unfolding steppedAs readOf
 known-after t out back o w e =
-    let a : loadedMeans (t .after) out back ≡ o .after .history = ap (λ (x : ReadOutcome). x .after .history) e in
+    let a : loadedMeans (t .after) out back ≡ o .after .history = ap (λ (x : ReadOutcome Numbers). x .after .history) e in
     record {
       well-formed = subst (Well-formed numbering isMessage) (sym a) w;
-      out-holds = ap (λ (x : ReadOutcome). x .out) e ∙ ap (λ (x : rules.Bench Numbers (List ℕ)). channel toControllerBytes (x .toController)) (sym a);
-      back-holds = ap (λ (x : ReadOutcome). x .back) e ∙ ap (λ (x : rules.Bench Numbers (List ℕ)). channel toConsoleBytes (x .toConsole)) (sym a);
+      out-holds = ap (λ (x : ReadOutcome Numbers). x .out) e ∙ ap (λ (x : rules.Bench Numbers (List ℕ)). channel toControllerBytes (x .toController)) (sym a);
+      back-holds = ap (λ (x : ReadOutcome Numbers). x .back) e ∙ ap (λ (x : rules.Bench Numbers (List ℕ)). channel toConsoleBytes (x .toConsole)) (sym a);
     }
 
 -- ## The promise's step

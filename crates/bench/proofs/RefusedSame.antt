@@ -23,7 +23,8 @@ use Rattle.channels.proofs.Channel.{packets-length}
 use Rattle.channels.proofs.Packets.{to-controller-coded, to-console-coded}
 use Rattle.bench.specs.AsRules.{benchOk, benchMeans, benchReads, benchBack}
 use Rattle.bench.specs.Promise.{benchRefused, benchTold, stepOf, benchStep}
-use Rattle.bench.specs.Loaded.{Typed, loadedMeans, loadedOf}
+use Rattle.bench.specs.WithNumbers.{withNumbers}
+use Rattle.bench.specs.Loaded.{Typed, loadedOf}
 use Rattle.bench.specs.declared.Action.{Action}
 use Rattle.bench.specs.declared.Bench.{Bench}
 use Rattle.bench.proofs.BenchRead.{console-passes, controller-passes, passes-well}
@@ -37,7 +38,7 @@ module _ (b : Bench) (out back : List ℕ) where
   module _ (typed : Typed (b .console) (b .controller)) (p : Bytes out) (q : Bytes back) where
     -- a well-formed bench is what it means, as fields and tables
     same : benchOk b out back ≡ true → (n : ℕ) → benchTold (record { report = ends.refused n; after = benchReads b out back }) ≡ benchRefused n b out back
-    unfolding benchTold benchRefused benchBack benchMeans loadedOf loadedMeans
+    unfolding benchTold benchRefused benchBack benchMeans loadedOf withNumbers
     same ok n =
         let k = passes-well b out back ok typed p q in
         λ i.

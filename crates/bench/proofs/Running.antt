@@ -23,7 +23,8 @@ use Rattle.bench.specs.AsRules.{benchBack}
 use Rattle.tables.proofs.LentParts.{part, replaced, part-length}
 use Rattle.bench.specs.Reports.{reportLine}
 use Rattle.bench.specs.Running.{recordsOf, played, lines, limitOf, listLines, listOutput, Ran, atFront, listRun}
-use Rattle.bench.specs.Loaded.{Well, loadedMeans, benchOf, Played, linesOn, started}
+use Rattle.bench.specs.WithNumbers.{withNumbers}
+use Rattle.bench.specs.Loaded.{Well, benchOf, Played, linesOn, started}
 use Rattle.bench.specs.declared.Bench.{Bench}
 use Rattle.bench.specs.declared.loaded.Loaded.{Loaded}
 
@@ -178,7 +179,7 @@ module _ (all input before output : List ℕ) (limit n : ℕ) (b : Loaded) (out 
 -- ## From a fresh bench
 
 pub starts-known : {b : Loaded} (out back : List ℕ) → b ≡ started → out ≡ replicate 2048 0 → back ≡ replicate 2048 0 → Well b out back
-unfolding loadedMeans packets rules.fresh
+unfolding withNumbers packets rules.fresh
 starts-known out back e f g =
     subst (λ (x : Loaded). Well x out back) (sym e)
     (record { well-formed = fresh-well-formed numbering isMessage (fresh-numbers 0) (fresh-numbers 0) refl refl; out-holds = f ∙ sym (channel-none to-controller-coded); back-holds = g ∙ sym (channel-none to-console-coded) })

@@ -46,7 +46,8 @@ use Rattle.channels.proofs.Packets.{to-controller-coded, to-console-coded}
 use Rattle.bench.specs.AsRules.{benchOk, benchMeans, benchReads, benchBack}
 use Rattle.bench.specs.Promise.{Result, benchRefused, benchTold, stepOf, benchStep, freshRules, benchFresh}
 use Rattle.bench.specs.ByModes.{actionOf}
-use Rattle.bench.specs.Loaded.{loadedMeans, loadedReads, loadedOf, steppedAs, readOf, loadedStep, benchOf, outcomeOf, linedStep}
+use Rattle.bench.specs.WithNumbers.{readOf, withNumbers, stepWith}
+use Rattle.bench.specs.Loaded.{loadedReads, loadedOf, steppedAs, loadedStep, benchOf, outcomeOf, linedStep}
 use Rattle.bench.specs.declared.Action.{Action}
 use Rattle.bench.specs.declared.Bench.{Bench}
 use Rattle.bench.specs.declared.Outcome.{Outcome}
@@ -58,7 +59,7 @@ use Rattle.bench.proofs.BenchRead.{passes}
 
 -- the fields of a bench by its modes are those of what it means
 pub bench-of : (b : Loaded) (out back : List ℕ) → benchOf b ≡ benchBack (loadedReads b out back)
-unfolding benchBack loadedMeans
+unfolding benchBack withNumbers
 bench-of b out back =
     λ i.
     record {
@@ -105,7 +106,7 @@ module _ (b : Bench) (line : Line) (a : Action) (out back : List ℕ) {e : conso
   tables-ill n q = ill-so b line a out back (passes b out back r s t ∙ not-true ok n) q
 
   means-is : benchReads b out back ≡ loadedReads (loadedOf e (b .console .ack) (b .console .message) f (b .sent) (b .returned)) out back
-  unfolding benchMeans loadedMeans loadedOf
+  unfolding benchMeans withNumbers loadedOf
   means-is =
       λ i.
       reading
@@ -118,7 +119,7 @@ module _ (b : Bench) (line : Line) (a : Action) (out back : List ℕ) {e : conso
 
   pub ends-step : {l : Loaded} (w : Stepped) {x : Outcome} {out′ back′ : List ℕ} → not ok ≡ false → l ≡ loadedOf e (b .console .ack) (b .console .message) f (b .sent) (b .returned) → steppedAs w out′ back′ ≡ loadedStep l out back line a
       → x ≡ outcomeOf w → record { outcome = x; out = out′; back = back′ } ≡ linedStep b line a out back
-  unfolding linedStep loadedStep actionOf if_then_else_
+  unfolding linedStep stepWith actionOf if_then_else_
   ends-step {l} w {x} {out′} {back′} n g h q =
       (λ j. record { outcome = q j; out = out′; back = back′ })
       ∙ told-so w out′ back′ (read-step numbering isMessage (benchReads b out back) (actionOf line a))

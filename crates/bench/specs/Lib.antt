@@ -8,3 +8,4 @@ pub mod Promise
 pub mod Reports
 pub mod Running
 pub mod Traffic
+pub mod WithNumbers

@@ -13,8 +13,6 @@ use Rattle.rules.specs.Supply.{numbering}
 use Rattle.rules.specs.Ends as ends
 use Rattle.rules.specs.Bench as rules
 use Rattle.rules.specs.Reading.{Reading, reading, Read, read-step}
-use Rattle.rules.specs.Relabel.{in-console}
-use Rattle.rules.specs.WellFormed.{Well-formed}
 use Rattle.rules.specs.Letters.{letter}
 use Rattle.letters.specs.Lines.{letterOf, foundOf, Lined}
 use Rattle.letters.specs.declared.Line.{Line}
@@ -22,11 +20,9 @@ use Rattle.letters.specs.declared.Found.{Found}
 use Rattle.letters.specs.declared.Found.the-variants as found
 use Rattle.listing.specs.Record.{listRecord}
 use Rattle.listing.specs.declared.Fields.{Fields}
-use Rattle.numbers.specs.Numbers.{numbersMeans, numbersFresh, numberOr0, numbersAfter}
+use Rattle.numbers.specs.Numbers.{numbersMeans, numbersFresh, numbersAfter}
 use Rattle.numbers.specs.declared.Numbers.{Numbers}
-use Rattle.ends.specs.AsRules.{forController, reportBack, delivered}
 use Rattle.ends.specs.declared.ForController.{ForController}
-use Rattle.ends.specs.declared.Report.{Report}
 use Rattle.ends_console.specs.AsRules as console
 use Rattle.ends_console.specs.Fields.{consoleWith}
 use Rattle.ends_console.specs.declared.Mode.the-variants as console-mode
@@ -38,9 +34,8 @@ use Rattle.ends_controller.specs.Fields.{controllerWith}
 use Rattle.ends_controller.specs.declared.Mode.the-variants as controller-mode
 use Rattle.ends_controller.specs.declared.End as controller-end
 use Rattle.ends_controller.specs.declared.fields.Controller.{Controller}
-use Rattle.channels.specs.Packets.{toControllerBytes, toControllerRead, toConsoleBytes, toConsoleRead}
-use Rattle.channels.specs.Table.{channel, packets}
 use Rattle.bench.specs.ByModes.{actionOf}
+use Rattle.bench.specs.WithNumbers.{withNumbers, WellWith, offeredBy, ReadOutcome, readOf, stepWith}
 use Rattle.bench.specs.Promise.{Result, stepOf}
 use Rattle.bench.specs.Reports.{reportLine}
 use Rattle.bench.specs.Running.{usesOf, actionWith, played, lines, recordsOf, limitOf}
@@ -54,35 +49,21 @@ use Rattle.bench.specs.declared.modes.Told.{Told}
 
 -- ## A bench by its modes, with its numbers, in the rules
 
-unfoldable pub loadedMeans : Loaded → List ℕ → List ℕ → rules.Bench supply.Numbers (List ℕ)
-loadedMeans b out back =
-    record {
-      console = in-console (λ _. b .modes .console .held) (console.end (record { numbers = b .console; mode = b .modes .console .mode; up = b .modes .console .up }));
-      controller = controller.end (record { numbers = b .controller; mode = b .modes .controller .mode; up = b .modes .controller .up });
-      toController = packets toControllerRead (b .modes .sent) out;
-      toConsole = packets toConsoleRead (b .modes .returned) back;
-    }
+abbrev pub loadedMeans : Loaded → List ℕ → List ℕ → rules.Bench supply.Numbers (List ℕ)
+loadedMeans b out back = withNumbers (b .modes) (numbersMeans (b .console)) (numbersMeans (b .controller)) out back
 
 -- with the ack beside it
 abbrev pub loadedReads : Loaded → List ℕ → List ℕ → Reading (rules.Bench supply.Numbers (List ℕ))
 loadedReads b out back = reading (loadedMeans b out back) (b .ack)
 
 -- well formed, and the tables hold these packets and zero bytes
-pub record Well (b : Loaded) (out back : List ℕ) : Type 0 where
-  pub well-formed : Well-formed numbering isMessage (loadedMeans b out back)
-  pub out-holds : out ≡ channel toControllerBytes (loadedMeans b out back .toController)
-  pub back-holds : back ≡ channel toConsoleBytes (loadedMeans b out back .toConsole)
+abbrev pub Well : Loaded → List ℕ → List ℕ → Type 0
+Well b out back = WellWith numbering (b .modes) (numbersMeans (b .console)) (numbersMeans (b .controller)) out back
 
 -- ## The thin layer
 
--- the numbers on offer; 0 for none
-abbrev pub offeredBy : Numbers → Numbers → ForController → Offered
-offeredBy c d came =
-    record {
-      j = record { 0 = numberOr0 (numbering .next (numbersMeans c)) };
-      i = record { 0 = numberOr0 (numbering .next (numbersMeans d)) };
-      unknown = ends.unknown (numbering .used (numbersMeans d)) (forController came);
-    }
+abbrev pub numbersOffered : Numbers → Numbers → ForController → Offered
+numbersOffered c d came = offeredBy numbering (numbersMeans c) (numbersMeans d) came
 
 -- what is shown, and the ack then
 abbrev pub movedBy : Numbers → Numbers → Shown → Told → Stepped
@@ -93,35 +74,13 @@ movedBy c d shown told =
       after = record { modes = told .after; console = numbersAfter (told .console) c; controller = numbersAfter (told .controller) d; ack = shown .ack };
     }
 
--- where no answer arrives
-abbrev pub asItIs : Bool → Told → Shown
-asItIs ack told = record { report = told .report; ack = ack }
-
 -- ## The step
 
--- an outcome of the rules with readings, with what the code shows of it
-pub record ReadOutcome : Type 0 where
-  pub report : Report
-  pub message : List ℕ
-  pub after : Reading (rules.Bench supply.Numbers (List ℕ))
-  pub out : List ℕ
-  pub back : List ℕ
-
-unfoldable pub steppedAs : Stepped → List ℕ → List ℕ → ReadOutcome
+unfoldable pub steppedAs : Stepped → List ℕ → List ℕ → ReadOutcome supply.Numbers
 steppedAs r out back = record { report = r .report; message = r .message; after = loadedReads (r .after) out back; out = out; back = back }
 
-unfoldable pub readOf : Read (rules.Bench supply.Numbers (List ℕ)) (List ℕ) → ReadOutcome
-readOf o =
-    record {
-      report = reportBack (o .report);
-      message = delivered (o .report);
-      after = o .after;
-      out = channel toControllerBytes (o .after .history .toController);
-      back = channel toConsoleBytes (o .after .history .toConsole);
-    }
-
-unfoldable pub loadedStep : Loaded → List ℕ → List ℕ → Line → Action → ReadOutcome
-loadedStep b out back line a = readOf (read-step numbering isMessage (loadedReads b out back) (actionOf line a))
+abbrev pub loadedStep : Loaded → List ℕ → List ℕ → Line → Action → ReadOutcome supply.Numbers
+loadedStep b out back line a = stepWith numbering (b .modes) (numbersMeans (b .console)) (numbersMeans (b .controller)) (b .ack) out back line a
 
 -- ## Between the fields and the modes
 
@@ -175,10 +134,10 @@ abbrev pub recordOutcome : Found → List ℕ → Loaded → List ℕ → List �
 recordOutcome found.Nothing s b out back = record { report = ends.refused 1; after = loadedReads b out back }
 recordOutcome (found.Line l) s b out back = fieldsOutcome l (listRecord (usesOf l) s) b out back
 
-unfoldable pub lineStep : Loaded → List ℕ → List ℕ → Line → List ℕ → ReadOutcome
+unfoldable pub lineStep : Loaded → List ℕ → List ℕ → Line → List ℕ → ReadOutcome supply.Numbers
 lineStep b out back l s = readOf (recordOutcome (found.Line l) s b out back)
 
-unfoldable pub recordStep : Loaded → List ℕ → List ℕ → List ℕ → ReadOutcome
+unfoldable pub recordStep : Loaded → List ℕ → List ℕ → List ℕ → ReadOutcome supply.Numbers
 recordStep b out back s = readOf (recordOutcome (foundOf (letter (getD s 0 0))) s b out back)
 
 -- a record played: its line, and what is known afterwards

@@ -27,7 +27,8 @@ ghost use lib.Dec.{ltb};
 ghost use Rattle.ground.specs.Cell.{spaces};
 ghost use Rattle.letters.specs.Lines.{Lined};
 ghost use Rattle.bench.specs.ByModes.{Few};
-ghost use Rattle.bench.specs.Loaded.{Well, offeredBy, movedBy, asItIs, steppedAs, loadedStep};
+ghost use Rattle.bench.specs.WithNumbers.{asItIs};
+ghost use Rattle.bench.specs.Loaded.{Well, numbersOffered, movedBy, steppedAs, loadedStep};
 
 pub struct Loaded {
     pub modes: Modes,
@@ -53,7 +54,7 @@ pub(crate) fn refused(n: u8, b: Loaded) -> Stepped
 }
 
 fn offers(console: Numbers, controller: Numbers, came: ForController) -> Offered
-    ensures { λ r. ⌜ r ≡ offeredBy console controller came ⌝ }
+    ensures { λ r. ⌜ r ≡ numbersOffered console controller came ⌝ }
 {
     Offered {
         j: J(numbers::next(console)),

@@ -1,6 +1,7 @@
 -- `bench::loaded::step_known` meets its contract.
 use borrow.Author.Needs.{needs}
-use Rattle.bench.proofs.NumbersMoved.{too-many-so, few-so}
+use Rattle.bench.proofs.NumbersMoved.{too-many-so}
+use Rattle.bench.proofs.NumbersOffered.{few-so}
 use Rattle.bench.proofs.loaded.step_known.Statement.{statement}
 use Rattle.bench.proofs.loaded.step_known.Tie as tie
 

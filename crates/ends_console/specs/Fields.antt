@@ -6,6 +6,7 @@ use lib.Dec.{eqb}
 use Rattle.ground.specs.Cell.{isMessage, spaces}
 use Rattle.ground.specs.Every.{filled}
 use Rattle.ground.specs.Choice.{if_then_else_}
+use Rattle.wire.specs.declared.I.{I}
 use Rattle.wire.specs.declared.J.{J}
 use Rattle.rules.specs.Supply.{numbering}
 use Rattle.numbers.specs.Numbers.{numbersMeans, numbersKept, numbersFresh}
@@ -16,20 +17,37 @@ use Rattle.ends_console.specs.declared.End.{End}
 use Rattle.ends_console.specs.declared.fields.Console.{Console}
 use Rattle.ends_console.specs.declared.fields.ConsoleRead.{ConsoleRead}
 use Rattle.ends_console.specs.declared.fields.ConsoleRead.the-variants as console-read
+use Rattle.ends_console.specs.declared.fields.ModeRead.{ModeRead}
+use Rattle.ends_console.specs.declared.fields.ModeRead.the-variants as mode-read
 
--- its numbers are sound: last used at most reserved, a block of 1 to 1,024. With a message held exactly one of j and last is not 0; with none both are 0 and the message
--- is 16 spaces. j is one of its own numbers. Any ack is well formed
+-- What the variables say by themselves, wherever the numbers come from: with a message held, 16 cells, exactly one of j and last is not 0; with none both are 0 and the
+-- message is 16 spaces
+abbrev pub variablesFit : Bool → List ℕ → J → I → Bool
+variablesFit held message j last =
+    if held
+    then isMessage message && (if eqb (j .0) 0 then not (eqb (last .0) 0) else eqb (last .0) 0)
+    else eqb (j .0) 0 && eqb (last .0) 0 && filled 0x20 message
+
+-- idle, needI (j set), send (last set)
+abbrev pub variablesMode : Bool → J → I → Mode
+variablesMode held j last = if held then (if eqb (j .0) 0 then Send last else NeedI j) else Mode.Idle
+
+unfoldable pub modeRead : Bool → List ℕ → J → I → ModeRead
+modeRead held message j last =
+    if variablesFit held message j last then mode-read.Is (variablesMode held j last) else mode-read.IllFormed
+
+-- j is not set, or one of its own numbers
+abbrev pub ownOrNone : Numbers → J → Bool
+ownOrNone u j = if eqb (j .0) 0 then true else numbering .used (numbersMeans u) (j .0)
+
+-- its numbers are sound: last used at most reserved, a block of 1 to 1,024. Its variables fit, and j is one of its own numbers. Any ack is well formed
 unfoldable pub consoleOk : Console → Bool
 consoleOk c =
     numbering .sound (numbersMeans (c .numbers))
-    && (if c .held
-    then isMessage (c .message)
-    && (if eqb (c .j .0) 0 then not (eqb (c .last .0) 0) else eqb (c .last .0) 0 && numbering .used (numbersMeans (c .numbers)) (c .j .0))
-    else eqb (c .j .0) 0 && eqb (c .last .0) 0 && filled 0x20 (c .message))
+    && (variablesFit (c .held) (c .message) (c .j) (c .last) && ownOrNone (c .numbers) (c .j))
 
--- idle, needI (j set), send (last set)
 unfoldable pub consoleMode : Console → Mode
-consoleMode c = if c .held then (if eqb (c .j .0) 0 then Send (c .last) else NeedI (c .j)) else Mode.Idle
+consoleMode c = variablesMode (c .held) (c .j) (c .last)
 
 abbrev pub consoleEnd : Console → End
 consoleEnd c = record { numbers = c .numbers; mode = consoleMode c; up = c .up }

@@ -7,11 +7,8 @@ use numbers::Numbers;
 use wire::I;
 use wire::J;
 ghost use mathlib.Core.Path.{_≡_};
-ghost use mathlib.Core.Bool.{true, false};
-ghost use Rattle.rules.specs.Supply.{numbering};
-ghost use Rattle.numbers.specs.Numbers.{numbersMeans};
 ghost use Rattle.ends.specs.AsRules.{endRefusal};
-ghost use Rattle.ends_console.specs.Fields.{consoleOk, consoleRead, consoleReadRefusal, consoleFields, freshConsole, downedConsole};
+ghost use Rattle.ends_console.specs.Fields.{modeRead, ownOrNone, consoleOk, consoleRead, consoleReadRefusal, consoleFields, freshConsole, downedConsole};
 
 pub struct Console {
     pub numbers: Numbers,
@@ -23,77 +20,74 @@ pub struct Console {
     pub ack: bool, // true is OK, false is lost
 }
 
+pub enum ModeRead {
+    IllFormed,
+    Is(Mode),
+}
+
 pub enum ConsoleRead {
     IllFormed,
     Is(End),
 }
 
-fn console_is(c: Console, mode: Mode) -> ConsoleRead
-    ensures { λ r. ⌜ r ≡ ConsoleRead.Is (record { numbers = c .numbers; mode = mode; up = c .up }) ⌝ }
+// The mode that the variables stand for, where they fit; whether j is one of the end's own numbers is not looked at here.
+fn read_mode(held: bool, message: &[u8; 16], j: J, last: I) -> ModeRead
+    ensures { λ r. ⌜ r ≡ modeRead held (now (message .entry)) j last ⌝ }
 {
-    let numbers = c.numbers;
-    let up = c.up;
-    ConsoleRead::Is(End { numbers, mode, up })
-}
-
-fn read_holding(c: Console) -> ConsoleRead
-    requires { ⌜ numbering .sound (numbersMeans (c .numbers)) ≡ true ⌝ }
-    requires { ⌜ c .held ≡ true ⌝ }
-    ensures { λ r. ⌜ r ≡ consoleRead c ⌝ }
-{
-    let m = c.message;
-    let j = c.j;
-    let last = c.last;
-    if !ground::all_cells(&m) {
-        return ConsoleRead::IllFormed;
-    }
-    if no_j(j) {
-        if no_i(last) {
-            return ConsoleRead::IllFormed;
+    if held {
+        if !ground::all_cells(message) {
+            return ModeRead::IllFormed;
         }
-        return console_is(c, Mode::Send(last));
+        if no_j(j) {
+            if no_i(last) {
+                return ModeRead::IllFormed;
+            }
+            return ModeRead::Is(Mode::Send(last));
+        }
+        if !no_i(last) {
+            return ModeRead::IllFormed;
+        }
+        return ModeRead::Is(Mode::NeedI(j));
+    }
+    if !no_j(j) {
+        return ModeRead::IllFormed;
     }
     if !no_i(last) {
-        return ConsoleRead::IllFormed;
+        return ModeRead::IllFormed;
     }
-    let own = c.numbers;
-    if !numbers::is_used(own, j.0) {
-        return ConsoleRead::IllFormed;
+    if !ground::all_are(message, 0x20) {
+        return ModeRead::IllFormed;
     }
-    console_is(c, Mode::NeedI(j))
+    ModeRead::Is(Mode::Idle)
 }
 
-fn read_idle(c: Console) -> ConsoleRead
-    requires { ⌜ numbering .sound (numbersMeans (c .numbers)) ≡ true ⌝ }
-    requires { ⌜ c .held ≡ false ⌝ }
-    ensures { λ r. ⌜ r ≡ consoleRead c ⌝ }
+fn own_or_none(own: Numbers, j: J) -> bool
+    ensures { λ r. ⌜ r ≡ ownOrNone own j ⌝ }
 {
-    let m = c.message;
-    if !no_j(c.j) {
-        return ConsoleRead::IllFormed;
+    if no_j(j) {
+        return true;
     }
-    if !no_i(c.last) {
-        return ConsoleRead::IllFormed;
-    }
-    if !ground::all_are(&m, 0x20) {
-        return ConsoleRead::IllFormed;
-    }
-    console_is(c, Mode::Idle)
+    numbers::is_used(own, j.0)
 }
 
 // A console's end, where its fields are well formed; IllFormed is refusal 2.
 pub fn read_console(c: Console) -> ConsoleRead
     ensures { λ r. ⌜ (r ≡ consoleRead c) × (consoleReadRefusal r ≡ endRefusal (consoleOk c)) ⌝ }
 {
-    let own = c.numbers;
-    if !numbers::sound(own) {
+    let numbers = c.numbers;
+    let message = c.message;
+    let j = c.j;
+    let up = c.up;
+    if !numbers::sound(numbers) {
         return ConsoleRead::IllFormed;
     }
-    if c.held {
-        read_holding(c)
-    } else {
-        read_idle(c)
+    let ModeRead::Is(mode) = read_mode(c.held, &message, j, c.last) else {
+        return ConsoleRead::IllFormed;
+    };
+    if !own_or_none(numbers, j) {
+        return ConsoleRead::IllFormed;
     }
+    ConsoleRead::Is(End { numbers, mode, up })
 }
 
 // The fields of an end that holds `message`, if it holds one, with its ack.

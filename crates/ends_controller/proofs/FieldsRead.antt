@@ -13,109 +13,171 @@ use Rattle.numbers.specs.Numbers.{numbersMeans}
 use Rattle.numbers.specs.declared.Numbers.{Numbers}
 use Rattle.wire.specs.declared.J.{J}
 use Rattle.ends_controller.specs.declared.End.{End}
+use Rattle.ends_controller.specs.declared.Mode.{Mode}
 use Rattle.ends_controller.specs.declared.Mode.the-variants.{Idle, Accept, Ack}
 use Rattle.ends_controller.specs.declared.fields.Controller.{Controller}
 use Rattle.ends_controller.specs.declared.fields.ControllerRead.{ControllerRead}
 use Rattle.ends_controller.specs.declared.fields.ControllerRead.the-variants.{IllFormed, Is}
+use Rattle.ends_controller.specs.declared.fields.ModeRead.{ModeRead}
+use Rattle.ends_controller.specs.declared.fields.ModeRead.the-variants as mode-read
 use Rattle.ends.specs.AsRules.{endRefusal}
-use Rattle.ends_controller.specs.Fields.{controllerReadRefusal, controllerOk, controllerMode, controllerEnd, controllerRead, controllerWith, controllerFields}
+use Rattle.ends_controller.specs.Fields.{variablesFit, variablesMode, modeRead, ownOrNone, controllerReadRefusal, controllerOk, controllerMode, controllerEnd, controllerRead, controllerWith, controllerFields}
 
 -- what a well-formed end's numbers are
 abbrev pub Sound : Numbers → Type 0
 Sound u = numbering .sound (numbersMeans u) ≡ true
 
--- ## With i set
+-- ## The variables
 
-module _ (c : Controller) (sound : Sound (c .numbers)) (set : eqb (c .i .0) 0 ≡ false) {p : Bool} (j : p ≡ eqb (c .j .0) 0) where
-  pub no-j : p ≡ true → IllFormed ≡ controllerRead c
+-- with i set
+module _ (j : J) (i l : I) {o p : Bool} (it : o ≡ eqb (i .0) 0) (set : o ≡ false) (jt : p ≡ eqb (j .0) 0) where
+  pub no-j : p ≡ true → mode-read.IllFormed ≡ modeRead j i l
+  unfolding modeRead if_then_else_
+  no-j y = rw (← it, set, ← jt, y)
+
+  module _ {q : Bool} (n : p ≡ false) (lt : q ≡ eqb (l .0) 0) where
+    pub both : not q ≡ true → mode-read.IllFormed ≡ modeRead j i l
+    unfolding modeRead if_then_else_
+    both s = rw (← it, set, ← jt, n, ← lt, not-true q s)
+
+    pub in-accept : not q ≡ false → mode-read.Is (Accept j i) ≡ modeRead j i l
+    unfolding modeRead if_then_else_
+    in-accept z = rw (← it, set, ← jt, n, ← lt, not-false q z)
+
+-- with none
+module _ (j : J) (i l : I) {o p : Bool} (it : o ≡ eqb (i .0) 0) (none : o ≡ true) (jt : p ≡ eqb (j .0) 0) where
+  pub only-j : not p ≡ true → mode-read.IllFormed ≡ modeRead j i l
+  unfolding modeRead if_then_else_
+  only-j s = rw (← it, none, ← jt, not-true p s)
+
+  module _ {q : Bool} (y : not p ≡ false) (lt : q ≡ eqb (l .0) 0) where
+    pub is-idle : q ≡ true → mode-read.Is Idle ≡ modeRead j i l
+    unfolding modeRead if_then_else_
+    is-idle z = rw (← it, none, ← jt, not-false p y, ← lt, z)
+
+    pub in-ack : q ≡ false → mode-read.Is (Ack l) ≡ modeRead j i l
+    unfolding modeRead if_then_else_
+    in-ack n = rw (← it, none, ← jt, not-false p y, ← lt, n)
+
+pub ruleset modes = (no-j, both, in-accept, only-j, is-idle, in-ack)
+
+-- ## A number of its own
+
+module _ (u : Numbers) (i : I) {p : Bool} (it : p ≡ eqb (i .0) 0) where
+  pub none-set : p ≡ true → true ≡ ownOrNone u i
+  unfolding if_then_else_
+  none-set y = rw (← it, y)
+
+  pub set-used : {o : Bool} → p ≡ false → o ≡ numbering .used (numbersMeans u) (i .0) → o ≡ ownOrNone u i
+  unfolding if_then_else_
+  set-used n h = rw (← it, n) h
+
+-- ## The whole: numbers that are sound, variables that fit, numbers of its own
+
+abbrev fit : Controller → Bool
+fit c = variablesFit (c .j) (c .i) (c .last)
+
+-- what the variables that were read are
+fitting : (j : J) (i l : I) {k : Mode} → mode-read.Is k ≡ modeRead j i l → (variablesFit j i l ≡ true) × (k ≡ variablesMode j i l)
+unfolding modeRead if_then_else_
+fitting j i l {k} h =
+    by-test (variablesFit j i l)
+    (λ t. let q : mode-read.Is k ≡ mode-read.Is (variablesMode j i l) = rw t at h in (t, cc))
+    (λ f. let q : mode-read.Is k ≡ mode-read.IllFormed = rw f at h in let z : _≡_ {A = ℕ} 1 0 = cc in absurd (omega (arith, z)))
+
+misfit : (j : J) (i l : I) → mode-read.IllFormed ≡ modeRead j i l → variablesFit j i l ≡ false
+unfolding modeRead if_then_else_
+misfit j i l h =
+    by-test (variablesFit j i l)
+    (λ t. let q : mode-read.IllFormed ≡ mode-read.Is (variablesMode j i l) = rw t at h in let z : _≡_ {A = ℕ} 0 1 = cc in absurd (omega (arith, z)))
+    (λ f. f)
+
+pub unsound : {s : Bool} (c : Controller) → s ≡ numbering .sound (numbersMeans (c .numbers)) → not s ≡ true → IllFormed ≡ controllerRead c
+unfolding controllerRead controllerOk if_then_else_
+unsound {s} c e n = rw (← e, not-true s n)
+
+module _ {s : Bool} {x : ModeRead} (c : Controller) (e : s ≡ numbering .sound (numbersMeans (c .numbers))) (n : not s ≡ false)
+    (read : x ≡ modeRead (c .j) (c .i) (c .last)) where
+  pub unfit : x ≡ mode-read.IllFormed → IllFormed ≡ controllerRead c
   unfolding controllerRead controllerOk if_then_else_
-  no-j y = rw (sound, set, ← j, y)
+  unfit h = rw (← e, not-false s n, misfit (c .j) (c .i) (c .last) (sym h ∙ read))
 
-  module _ {q : Bool} (n : p ≡ false) (l : q ≡ eqb (c .last .0) 0) where
-    pub both : not q ≡ true → IllFormed ≡ controllerRead c
+  module _ {o : Bool} {k : Mode} (h : x ≡ mode-read.Is k) (t : o ≡ ownOrNone (c .numbers) (c .i)) where
+    fits : (fit c ≡ true) × (k ≡ variablesMode (c .j) (c .i) (c .last))
+    fits = fitting (c .j) (c .i) (c .last) (sym h ∙ read)
+
+    pub i-not-its-own : not o ≡ true → IllFormed ≡ controllerRead c
     unfolding controllerRead controllerOk if_then_else_
-    both s = rw (sound, set, ← j, n, ← l, not-true q s)
+    i-not-its-own f = rw (← e, not-false s n, fits .0, ← t, not-true o f)
 
-    pub i-not-its-own : {u : Bool} → not q ≡ false → u ≡ numbering .used (numbersMeans (c .numbers)) (c .i .0) → not u ≡ true → IllFormed ≡ controllerRead c
-    unfolding controllerRead controllerOk if_then_else_
-    i-not-its-own {u} z o y = rw (sound, set, ← j, n, ← l, not-false q z, ← o, not-true u y)
+    module _ {v : Bool} (f : not o ≡ false) (w : v ≡ ownOrNone (c .numbers) (c .last)) where
+      pub last-not-its-own : not v ≡ true → IllFormed ≡ controllerRead c
+      unfolding controllerRead controllerOk if_then_else_
+      last-not-its-own g = rw (← e, not-false s n, fits .0, ← t, not-false o f, ← w, not-true v g)
 
-    pub in-accept : {u : Bool} {x : ControllerRead} → not q ≡ false → u ≡ numbering .used (numbersMeans (c .numbers)) (c .i .0) → not u ≡ false
-        → x ≡ Is (record { numbers = c .numbers; mode = Accept (c .j) (c .i); up = c .up }) → x ≡ controllerRead c
-    unfolding controllerRead controllerOk controllerMode if_then_else_
-    in-accept {u} z o y h = rw (sound, set, ← j, n, ← l, not-false q z, ← o, not-false u y) h
+      pub well : not v ≡ false → Is (record { numbers = c .numbers; mode = k; up = c .up }) ≡ controllerRead c
+      unfolding controllerRead controllerOk controllerMode if_then_else_
+      well g = rw (← e, not-false s n, fits .0, ← t, not-false o f, ← w, not-false v g, fits .1)
 
-pub ruleset accepting = (no-j, both, i-not-its-own, in-accept)
-
--- ## With none
-
-module _ (c : Controller) (sound : Sound (c .numbers)) (none : eqb (c .i .0) 0 ≡ true) {p : Bool} (j : p ≡ eqb (c .j .0) 0) where
-  pub only-j : not p ≡ true → IllFormed ≡ controllerRead c
-  unfolding controllerRead controllerOk if_then_else_
-  only-j s = rw (sound, none, ← j, not-true p s)
-
-  module _ {q : Bool} (y : not p ≡ false) (l : q ≡ eqb (c .last .0) 0) where
-    pub is-idle : {x : ControllerRead} → q ≡ true → x ≡ Is (record { numbers = c .numbers; mode = Idle; up = c .up }) → x ≡ controllerRead c
-    unfolding controllerRead controllerOk controllerMode if_then_else_
-    is-idle z h = rw (sound, none, ← j, not-false p y, ← l, z) h
-
-    pub last-not-its-own : {u : Bool} → q ≡ false → u ≡ numbering .used (numbersMeans (c .numbers)) (c .last .0) → not u ≡ true → IllFormed ≡ controllerRead c
-    unfolding controllerRead controllerOk if_then_else_
-    last-not-its-own {u} n o t = rw (sound, none, ← j, not-false p y, ← l, n, ← o, not-true u t)
-
-    pub in-ack : {u : Bool} {x : ControllerRead} → q ≡ false → u ≡ numbering .used (numbersMeans (c .numbers)) (c .last .0) → not u ≡ false
-        → x ≡ Is (record { numbers = c .numbers; mode = Ack (c .last); up = c .up }) → x ≡ controllerRead c
-    unfolding controllerRead controllerOk controllerMode if_then_else_
-    in-ack {u} n o t h = rw (sound, none, ← j, not-false p y, ← l, n, ← o, not-false u t) h
-
-pub ruleset others = (only-j, is-idle, last-not-its-own, in-ack)
-
--- numbers that are not sound are those of no end
-module _ {s : Bool} (c : Controller) (e : s ≡ numbering .sound (numbersMeans (c .numbers))) where
-  pub unsound : not s ≡ true → IllFormed ≡ controllerRead c
-  unfolding controllerRead controllerOk if_then_else_
-  unsound n = rw (← e, not-true s n)
-
-  pub sound-so : not s ≡ false → Sound (c .numbers)
-  sound-so n = sym e ∙ not-false s n
-
-pub test-so : {o v : Bool} (c : Controller) → o ≡ eqb (c .i .0) 0 → o ≡ v → eqb (c .i .0) 0 ≡ v
-test-so c e t = sym e ∙ t
+pub ruleset whole = (unsound, unfit, i-not-its-own, last-not-its-own, well)
 
 -- ## What well-formed fields give, and that reading and writing them back changes nothing
 
 abbrev pub its-own : Numbers → I → Bool
 its-own u i = numbering .used (numbersMeans u) (i .0)
 
-abbrev set-right : Numbers → J → I → I → Bool
-set-right u j i l =
-    if eqb (i .0) 0 then eqb (j .0) 0 && (if eqb (l .0) 0 then true else its-own u l)
-    else not (eqb (j .0) 0) && eqb (l .0) 0 && its-own u i
-
-ok-parts : (u : Numbers) (j : J) (i l : I) (up : Bool) → controllerOk (record { numbers = u; j = j; i = i; last = l; up = up }) ≡ true → Sound u × (set-right u j i l ≡ true)
-unfolding controllerOk
-ok-parts u j i l up ok =
-    (and-left (numbering .sound (numbersMeans u)) (set-right u j i l) ok, and-right (numbering .sound (numbersMeans u)) (set-right u j i l) ok)
-
 pub ok-sound : (c : Controller) → controllerOk c ≡ true → Sound (c .numbers)
-ok-sound c ok = ok-parts (c .numbers) (c .j) (c .i) (c .last) (c .up) ok .0
+unfolding controllerOk
+ok-sound c ok = and-left (numbering .sound (numbersMeans (c .numbers))) _ ok
 
-no-i : (u : Numbers) (j : J) (i l : I) → set-right u j i l ≡ true → eqb (i .0) 0 ≡ true → (j .0 ≡ 0) × (eqb (l .0) 0 ≡ false → its-own u l ≡ true)
-unfolding if_then_else_
-no-i u j i l p t =
-    let q : (eqb (j .0) 0 && (if eqb (l .0) 0 then true else its-own u l)) ≡ true = rw t at p in
-    (eqb-true (j .0) 0 (and-left (eqb (j .0) 0) _ q), λ f. let r : (if eqb (l .0) 0 then true else its-own u l) ≡ true = and-right (eqb (j .0) 0) _ q in rw f at r)
-
-with-i : (u : Numbers) (j : J) (i l : I) → set-right u j i l ≡ true → eqb (i .0) 0 ≡ false → (0 < j .0) × (l .0 ≡ 0) × (its-own u i ≡ true)
-unfolding if_then_else_
-with-i u j i l p f =
-    let q : (not (eqb (j .0) 0) && eqb (l .0) 0 && its-own u i) ≡ true = rw f at p in
-    let both = and-left (not (eqb (j .0) 0) && eqb (l .0) 0) (its-own u i) q in
-    let h = eqb-false (j .0) 0 (not-true (eqb (j .0) 0) (and-left (not (eqb (j .0) 0)) (eqb (l .0) 0) both)) in
-    (omega (arith, h), eqb-true (l .0) 0 (and-right (not (eqb (j .0) 0)) (eqb (l .0) 0) both), and-right (not (eqb (j .0) 0) && eqb (l .0) 0) (its-own u i) q)
+ok-fits : (c : Controller) → controllerOk c ≡ true → (fit c ≡ true) × (ownOrNone (c .numbers) (c .i) ≡ true) × (ownOrNone (c .numbers) (c .last) ≡ true)
+unfolding controllerOk
+ok-fits c ok =
+    let i = ownOrNone (c .numbers) (c .i) in
+    let l = ownOrNone (c .numbers) (c .last) in
+    let rest = and-right (numbering .sound (numbersMeans (c .numbers))) (fit c && (i && l)) ok in
+    (and-left (fit c) (i && l) rest, and-left i l (and-right (fit c) (i && l) rest), and-right i l (and-right (fit c) (i && l) rest))
 
 above-0 : (n : ℕ) → eqb n 0 ≡ false → 0 < n
 above-0 n f = omega (arith, eqb-false n 0 f)
+
+abbrev none-j : J
+none-j = record { 0 = 0 }
+
+abbrev none-i : I
+none-i = record { 0 = 0 }
+
+no-i : (j : J) (i l : I) → variablesFit j i l ≡ true → eqb (i .0) 0 ≡ true → j .0 ≡ 0
+unfolding if_then_else_
+no-i j i l p t = let q : eqb (j .0) 0 ≡ true = rw t at p in eqb-true (j .0) 0 q
+
+with-i : (j : J) (i l : I) → variablesFit j i l ≡ true → eqb (i .0) 0 ≡ false → (0 < j .0) × (l .0 ≡ 0)
+unfolding if_then_else_
+with-i j i l p f =
+    let q : (not (eqb (j .0) 0) && eqb (l .0) 0) ≡ true = rw f at p in
+    (above-0 (j .0) (not-true (eqb (j .0) 0) (and-left (not (eqb (j .0) 0)) (eqb (l .0) 0) q)), eqb-true (l .0) 0 (and-right (not (eqb (j .0) 0)) (eqb (l .0) 0) q))
+
+-- by the mode that the variables stand for
+pub by-variables : (P : J → I → I → Type 0)
+    → P none-j none-i none-i
+    → ((j : J) (i : I) → 0 < j .0 → 0 < i .0 → P j i none-i)
+    → ((l : I) → 0 < l .0 → P none-j none-i l)
+    → (j : J) (i l : I) → variablesFit j i l ≡ true → P j i l
+by-variables P idle accept ack j i l ok =
+    by-test (eqb (i .0) 0)
+    (λ t.
+    subst (λ (n : ℕ). P j (record { 0 = n }) l) (sym (eqb-true (i .0) 0 t))
+    (subst (λ (n : ℕ). P (record { 0 = n }) none-i l) (sym (no-i j i l ok t))
+    (by-test (eqb (l .0) 0)
+    (λ z. subst (λ (n : ℕ). P none-j none-i (record { 0 = n })) (sym (eqb-true (l .0) 0 z)) idle)
+    (λ f. ack l (above-0 (l .0) f)))))
+    (λ f.
+    let w = with-i j i l ok f in
+    subst (λ (n : ℕ). P j i (record { 0 = n })) (sym (w .1)) (accept j i (w .0) (above-0 (i .0) f)))
+
+set-own : (u : Numbers) (i : I) → 0 < i .0 → ownOrNone u i ≡ true → its-own u i ≡ true
+unfolding if_then_else_
+set-own u i h o = rw (ne-eqb (i .0) 0 (omega (arith, h))) at o
 
 -- by the mode that the fields stand for
 pub by-mode : (P : Controller → Type 0)
@@ -123,26 +185,15 @@ pub by-mode : (P : Controller → Type 0)
     → ((u : Numbers) (j : J) (i : I) (up : Bool) → Sound u → 0 < j .0 → 0 < i .0 → its-own u i ≡ true → P (controllerWith u (Accept j i) up))
     → ((u : Numbers) (l : I) (up : Bool) → Sound u → 0 < l .0 → its-own u l ≡ true → P (controllerWith u (Ack l) up))
     → (c : Controller) → controllerOk c ≡ true → P c
-by-mode P idle accept ack c ok = parts (c .numbers) (c .j) (c .i) (c .last) (c .up) ok
-  where
-    parts : (u : Numbers) (j : J) (i l : I) (up : Bool) → controllerOk (record { numbers = u; j = j; i = i; last = l; up = up }) ≡ true
-        → P (record { numbers = u; j = j; i = i; last = l; up = up })
-    parts u j i l up ok =
-        let s = ok-parts u j i l up ok .0 in
-        let o = ok-parts u j i l up ok .1 in
-        by-test (eqb (i .0) 0)
-        (λ t.
-        subst (λ (n : ℕ). P (record { numbers = u; j = j; i = record { 0 = n }; last = l; up = up })) (sym (eqb-true (i .0) 0 t))
-        (subst (λ (n : ℕ). P (record { numbers = u; j = record { 0 = n }; i = record { 0 = 0 }; last = l; up = up })) (sym (no-i u j i l o t .0))
-        (by-test (eqb (l .0) 0)
-        (λ z.
-        subst (λ (n : ℕ). P (record { numbers = u; j = record { 0 = 0 }; i = record { 0 = 0 }; last = record { 0 = n }; up = up })) (sym (eqb-true (l .0) 0 z))
-        (idle u up s))
-        (λ f. ack u l up s (above-0 (l .0) f) (no-i u j i l o t .1 f)))))
-        (λ f.
-        let w = with-i u j i l o f in
-        subst (λ (n : ℕ). P (record { numbers = u; j = j; i = i; last = record { 0 = n }; up = up })) (sym (w .1))
-        (accept u j i up s (w .0) (above-0 (i .0) f) (w .2)))
+by-mode P idle accept ack c ok =
+    let u = c .numbers in
+    let s = ok-sound c ok in
+    by-variables
+    (λ j i l. ownOrNone u i ≡ true → ownOrNone u l ≡ true → P (record { numbers = u; j = j; i = i; last = l; up = c .up }))
+    (λ o v. idle u (c .up) s)
+    (λ j i h k o v. accept u j i (c .up) s h k (set-own u i k o))
+    (λ l h o v. ack u l (c .up) s h (set-own u l h v))
+    (c .j) (c .i) (c .last) (ok-fits c ok .0) (ok-fits c ok .1) (ok-fits c ok .2)
 
 -- fields that are read and written back are the same
 abbrev Same : Controller → Type 0

@@ -4,6 +4,7 @@ use mathlib.Core.Bool.{Bool, true, false, not, _&&_}
 use lib.Dec.{eqb}
 use Rattle.ground.specs.Choice.{if_then_else_}
 use Rattle.wire.specs.declared.I.{I}
+use Rattle.wire.specs.declared.J.{J}
 use Rattle.rules.specs.Supply.{numbering}
 use Rattle.numbers.specs.Numbers.{numbersMeans, numbersKept, numbersFresh}
 use Rattle.numbers.specs.declared.Numbers.{Numbers}
@@ -13,19 +14,33 @@ use Rattle.ends_controller.specs.declared.End as controller-end
 use Rattle.ends_controller.specs.declared.fields.Controller.{Controller}
 use Rattle.ends_controller.specs.declared.fields.ControllerRead.{ControllerRead}
 use Rattle.ends_controller.specs.declared.fields.ControllerRead.the-variants as controller-read
+use Rattle.ends_controller.specs.declared.fields.ModeRead.{ModeRead}
+use Rattle.ends_controller.specs.declared.fields.ModeRead.the-variants as mode-read
 
--- its numbers are sound: last used at most reserved, a block of 1 to 1,024. j and i both 0 or neither; i and last are not both set; each of them is one of its own numbers
+-- What the variables say by themselves, wherever the numbers come from: j and i both 0 or neither; i and last are not both set
+abbrev pub variablesFit : J → I → I → Bool
+variablesFit j i last = if eqb (i .0) 0 then eqb (j .0) 0 else not (eqb (j .0) 0) && eqb (last .0) 0
+
+-- idle, accept (i set), ack (last set)
+abbrev pub variablesMode : J → I → I → controller.Mode
+variablesMode j i last =
+    if eqb (i .0) 0 then (if eqb (last .0) 0 then controller.Mode.Idle else Ack last) else Accept j i
+
+unfoldable pub modeRead : J → I → I → ModeRead
+modeRead j i last = if variablesFit j i last then mode-read.Is (variablesMode j i last) else mode-read.IllFormed
+
+-- i or last is not set, or one of its own numbers
+abbrev pub ownOrNone : Numbers → I → Bool
+ownOrNone u i = if eqb (i .0) 0 then true else numbering .used (numbersMeans u) (i .0)
+
+-- its numbers are sound: last used at most reserved, a block of 1 to 1,024. Its variables fit, and each of i and last is one of its own numbers
 unfoldable pub controllerOk : Controller → Bool
 controllerOk c =
     numbering .sound (numbersMeans (c .numbers))
-    && (if eqb (c .i .0) 0
-    then eqb (c .j .0) 0 && (if eqb (c .last .0) 0 then true else numbering .used (numbersMeans (c .numbers)) (c .last .0))
-    else not (eqb (c .j .0) 0) && eqb (c .last .0) 0 && numbering .used (numbersMeans (c .numbers)) (c .i .0))
+    && (variablesFit (c .j) (c .i) (c .last) && (ownOrNone (c .numbers) (c .i) && ownOrNone (c .numbers) (c .last)))
 
--- idle, accept (i set), ack (last set)
 unfoldable pub controllerMode : Controller → controller.Mode
-controllerMode c =
-    if eqb (c .i .0) 0 then (if eqb (c .last .0) 0 then controller.Mode.Idle else Ack (c .last)) else Accept (c .j) (c .i)
+controllerMode c = variablesMode (c .j) (c .i) (c .last)
 
 abbrev pub controllerEnd : Controller → controller-end.End
 controllerEnd c = record { numbers = c .numbers; mode = controllerMode c; up = c .up }

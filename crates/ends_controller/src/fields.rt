@@ -7,12 +7,8 @@ use numbers::Numbers;
 use wire::I;
 use wire::J;
 ghost use mathlib.Core.Path.{_≡_};
-ghost use mathlib.Core.Bool.{true, false};
-ghost use lib.Dec.{eqb};
-ghost use Rattle.rules.specs.Supply.{numbering};
-ghost use Rattle.numbers.specs.Numbers.{numbersMeans};
 ghost use Rattle.ends.specs.AsRules.{endRefusal};
-ghost use Rattle.ends_controller.specs.Fields.{controllerOk, controllerRead, controllerReadRefusal, controllerFields, freshController, downedController};
+ghost use Rattle.ends_controller.specs.Fields.{modeRead, ownOrNone, controllerOk, controllerRead, controllerReadRefusal, controllerFields, freshController, downedController};
 
 pub struct Controller {
     pub numbers: Numbers,
@@ -22,73 +18,68 @@ pub struct Controller {
     pub up: bool,
 }
 
+pub enum ModeRead {
+    IllFormed,
+    Is(Mode),
+}
+
 pub enum ControllerRead {
     IllFormed,
     Is(End),
 }
 
-fn controller_is(c: Controller, mode: Mode) -> ControllerRead
-    ensures { λ r. ⌜ r ≡ ControllerRead.Is (record { numbers = c .numbers; mode = mode; up = c .up }) ⌝ }
+// The mode that the variables stand for, where they fit; whether i or last is one of the end's own numbers is not looked at here.
+fn read_mode(j: J, i: I, last: I) -> ModeRead
+    ensures { λ r. ⌜ r ≡ modeRead j i last ⌝ }
 {
-    let numbers = c.numbers;
-    let up = c.up;
-    ControllerRead::Is(End { numbers, mode, up })
-}
-
-// Of a controller whose i is set.
-fn read_accepting(c: Controller) -> ControllerRead
-    requires { ⌜ numbering .sound (numbersMeans (c .numbers)) ≡ true ⌝ }
-    requires { ⌜ eqb (c .i .0) 0 ≡ false ⌝ }
-    ensures { λ r. ⌜ r ≡ controllerRead c ⌝ }
-{
-    let own = c.numbers;
-    let j = c.j;
-    let i = c.i;
+    if no_i(i) {
+        if !no_j(j) {
+            return ModeRead::IllFormed;
+        }
+        if no_i(last) {
+            return ModeRead::Is(Mode::Idle);
+        }
+        return ModeRead::Is(Mode::Ack(last));
+    }
     if no_j(j) {
-        return ControllerRead::IllFormed;
+        return ModeRead::IllFormed;
     }
-    if !no_i(c.last) {
-        return ControllerRead::IllFormed;
+    if !no_i(last) {
+        return ModeRead::IllFormed;
     }
-    if !numbers::is_used(own, i.0) {
-        return ControllerRead::IllFormed;
-    }
-    controller_is(c, Mode::Accept(j, i))
+    ModeRead::Is(Mode::Accept(j, i))
 }
 
-// Of one whose i is not set.
-fn read_others(c: Controller) -> ControllerRead
-    requires { ⌜ numbering .sound (numbersMeans (c .numbers)) ≡ true ⌝ }
-    requires { ⌜ eqb (c .i .0) 0 ≡ true ⌝ }
-    ensures { λ r. ⌜ r ≡ controllerRead c ⌝ }
+fn own_or_none(own: Numbers, i: I) -> bool
+    ensures { λ r. ⌜ r ≡ ownOrNone own i ⌝ }
 {
-    let own = c.numbers;
-    let last = c.last;
-    if !no_j(c.j) {
-        return ControllerRead::IllFormed;
+    if no_i(i) {
+        return true;
     }
-    if no_i(last) {
-        return controller_is(c, Mode::Idle);
-    }
-    if !numbers::is_used(own, last.0) {
-        return ControllerRead::IllFormed;
-    }
-    controller_is(c, Mode::Ack(last))
+    numbers::is_used(own, i.0)
 }
 
 // A controller's end, where its fields are well formed; IllFormed is refusal 2.
 pub fn read_controller(c: Controller) -> ControllerRead
     ensures { λ r. ⌜ (r ≡ controllerRead c) × (controllerReadRefusal r ≡ endRefusal (controllerOk c)) ⌝ }
 {
-    let own = c.numbers;
-    if !numbers::sound(own) {
+    let numbers = c.numbers;
+    let i = c.i;
+    let last = c.last;
+    let up = c.up;
+    if !numbers::sound(numbers) {
         return ControllerRead::IllFormed;
     }
-    if no_i(c.i) {
-        read_others(c)
-    } else {
-        read_accepting(c)
+    let ModeRead::Is(mode) = read_mode(c.j, i, last) else {
+        return ControllerRead::IllFormed;
+    };
+    if !own_or_none(numbers, i) {
+        return ControllerRead::IllFormed;
     }
+    if !own_or_none(numbers, last) {
+        return ControllerRead::IllFormed;
+    }
+    ControllerRead::Is(End { numbers, mode, up })
 }
 
 pub fn controller_of(e: End) -> Controller

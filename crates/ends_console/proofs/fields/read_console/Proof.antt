@@ -1,6 +1,6 @@
 -- `ends_console::fields::read_console` meets its contract.
 use borrow.Author.Needs.{needs}
-use Rattle.ends_console.proofs.FieldsRead.{numbered, unsound, sound-so}
+use Rattle.ends_console.proofs.FieldsRead.{numbered, whole}
 use Rattle.ends_console.proofs.fields.read_console.Statement.{statement}
 use Rattle.ends_console.proofs.fields.read_console.Tie as tie
 
@@ -9,8 +9,11 @@ read-console-spec =
     tie.close
     (tie.spec
     (λ c κs. search needs)
-    (λ c. numbered _ (search unsound))
-    (λ c κs. search (sound-so, needs))
-    (λ c κs. search (sound-so, needs))
-    (λ c. search (numbered, needs))
-    (λ c. search (numbered, needs)))
+    (λ c. numbered _ (search whole))
+    (λ c κs. search needs)
+    (λ c. search needs)
+    (λ c. search needs)
+    (λ c. numbered _ (search whole))
+    (λ c κs. search needs)
+    (λ c. numbered _ (search whole))
+    (λ c. numbered _ (search whole)))

@@ -1,6 +1,6 @@
 -- `ends_controller::fields::read_controller` meets its contract.
 use borrow.Author.Needs.{needs}
-use Rattle.ends_controller.proofs.FieldsRead.{numbered, unsound, sound-so, test-so}
+use Rattle.ends_controller.proofs.FieldsRead.{numbered, whole}
 use Rattle.ends_controller.proofs.fields.read_controller.Statement.{statement}
 use Rattle.ends_controller.proofs.fields.read_controller.Tie as tie
 
@@ -9,9 +9,13 @@ read-controller-spec =
     tie.close
     (tie.spec
     (λ c κs. search needs)
-    (λ c. numbered _ (search unsound))
+    (λ c. numbered _ (search whole))
     (λ c κs. search needs)
-    (λ c κs. search (sound-so, test-so, needs))
-    (λ c κs. search (sound-so, test-so, needs))
-    (λ c. search (numbered, needs))
-    (λ c. search (numbered, needs)))
+    (λ c. search needs)
+    (λ c. search needs)
+    (λ c. numbered _ (search whole))
+    (λ c κs. search needs)
+    (λ c. numbered _ (search whole))
+    (λ c κs. search needs)
+    (λ c. numbered _ (search whole))
+    (λ c. numbered _ (search whole)))

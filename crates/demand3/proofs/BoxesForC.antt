@@ -1,10 +1,9 @@
--- Demand 3 of two boxes written in C, from that of the ends run alone: call by call, states, records and bytes told are those of the ends.
+-- Demand 3 of two boxes written in C, from what the ends run alone come to: call by call, states, records and bytes told are those of the ends.
 use Prim.Native.Nat.{ℕ, _+_, _*_, _/_, _%_, _<_, _≤_, _^_}
-use mathlib.Core.Path.{_≡_, refl, sym, ap, ap₂, subst, _∙_}
-use mathlib.Core.Logic.{inl, inr}
+use mathlib.Core.Path.{_≡_, refl, sym, ap, subst, _∙_}
+use mathlib.Core.Logic.{⊎-map}
 use mathlib.Core.Bool.{Bool, true, false, _&&_, true≢false}
-use mathlib.Core.Option.{Option}
-use mathlib.Core.List.{List, [], _∷_, map}
+use mathlib.Core.List.{List, []}
 use native.Mathlib.Nat.{add-zero, div-eq-of-lt, le-refl, mod-eq-of-lt}
 use native.Mathlib.Omega.{arith}
 use lib.ListN.{length}
@@ -20,35 +19,38 @@ use Rattle.wire.specs.declared.NumberRecord.{NumberRecord}
 use Rattle.wire.specs.declared.NumberRecord.the-variants as number-record
 use Rattle.wire.proofs.Carrying.{renewed-end, renewed-number, renewed-block}
 use Rattle.wire.proofs.RecordTrips.{record-read-back}
+use Rattle.rules.specs.Supply as supply
 use Rattle.rules.specs.Supply.{numbering, largest}
+use Rattle.rules.specs.Ends as rules
 use Rattle.rules.specs.Bench as bench
-use Rattle.rules.specs.Log as log
+use Rattle.rules.specs.Bench.{Bench}
 use Rattle.rules.specs.ReadPlain.{Plain-read}
-use Rattle.rules.specs.Demand3.{written}
 use Rattle.rules.specs.Radio as radio
 use Rattle.rules.specs.Reading.{unread}
-use Rattle.rules.specs.ReadDemand3.{firsts, spares-lost}
-use Rattle.rules.specs.ReadRadio.{read-happens, radio-read-log}
-use Rattle.rules.proofs.Supply.{sound-block, sound-so}
+use Rattle.rules.specs.ReadRadio.{radio-read-log}
 use Rattle.rules.proofs.ReadPlain.{right-read-plain}
+use Rattle.rules.proofs.Supply.{sound-block, sound-so}
 use Rattle.numbers.specs.Numbers.{numbersMeans, numbersBack, numbersKept, numbersFresh}
 use Rattle.numbers.specs.declared.Numbers.{Numbers}
 use Rattle.numbers.proofs.Range.{sound-fits}
-use Rattle.ends_console.specs.Fields.{consoleOk, consoleKept, downedConsole}
+use Rattle.ends_console.specs.Fields.{consoleOk, downedConsole}
+use Rattle.ends_console.specs.FieldsAsRules.{consoleBack}
+use Rattle.ends_console.specs.declared.fields.Console.{Console}
 use Rattle.ends_console.proofs.FieldsRead as console-read
-use Rattle.ends_controller.specs.Fields.{controllerOk, controllerKept, downedController}
+use Rattle.ends_controller.specs.Fields.{controllerOk, downedController}
+use Rattle.ends_controller.specs.FieldsAsRules.{controllerBack}
+use Rattle.ends_controller.specs.declared.fields.Controller.{Controller}
 use Rattle.ends_controller.proofs.FieldsRead as controller-read
+use Rattle.ends.specs.AsRules.{reportBack}
 use Rattle.ends.specs.declared.Report.{Report}
 use Rattle.ends.specs.declared.Report.the-variants as report
-use Rattle.ends_console.specs.declared.fields.Console.{Console}
-use Rattle.ends_controller.specs.declared.fields.Controller.{Controller}
-use Rattle.alone.specs.ConsoleAlone.{ConsoleAlone, consoleRefused, consoleAlone}
-use Rattle.alone.specs.ControllerAlone.{ControllerAlone, controllerRefused, controllerAlone}
+use Rattle.alone.specs.ConsoleAlone.{ConsoleAlone}
+use Rattle.alone.specs.ControllerAlone.{ControllerAlone}
 use Rattle.alone.proofs.Refusals.{console-refusal-leaves, controller-refusal-leaves}
 use Rattle.boundary.specs.State as state
 use Rattle.boundary.specs.State.{isRefusal, changed, marks, told, stateRecordPut, startRefusal, started, startIn, startOf}
-use Rattle.boundary.specs.Console.{ConsoleStep, consoleBytes, consoleStep}
-use Rattle.boundary.specs.Controller.{ControllerStep, controllerBytes, controllerStep, deliveredTo}
+use Rattle.boundary.specs.Console.{consoleAt, consoleBytes}
+use Rattle.boundary.specs.Controller.{controllerAt, controllerBytes, deliveredTo}
 use Rattle.boundary.proofs.ConsoleWellFormed as console-left
 use Rattle.boundary.proofs.ConsoleWellFormed.{console-refusal-number}
 use Rattle.boundary.proofs.ControllerWellFormed as controller-left
@@ -57,10 +59,10 @@ use Rattle.boundary.proofs.ConsoleTrips as console-trips
 use Rattle.boundary.proofs.ControllerTrips as controller-trips
 use Rattle.boundary.proofs.ToldByte.{Refusal, keeps-told, sends-told}
 use Rattle.demand3.specs.BenchForC.{byteSays}
-use Rattle.demand3.specs.Boxes as alone
-use Rattle.demand3.specs.Boxes.{Reach, through, kept-and-cut, cut, leaves, called}
-use Rattle.demand3.specs.BoxesForC.{Boxes, Event, at-console, at-controller, keepTold, sentTold, reportTold, buffer, consoleKeeps, controllerKeeps, consoleStarts, controllerStarts, consoleGoes, controllerGoes, after, numbersOf, start, consoleShows, controllerShows, shows, allShown, Honest, AllHonest, RecordOf, BoxesForCRight}
-use Rattle.demand3.proofs.Boxes.{Row, Here, Ok, boxesOf, Kept, Moved, moved, next-ok, next-kept, console-kept-so, controller-kept-so, from-kept, from-ok, boxes-right}
+use Rattle.demand3.specs.AnyBoxes.{Call, Kind, Event, AllHonest}
+use Rattle.demand3.specs.BoxesForC.{keepTold, sentTold, reportTold, buffer, recordKept, Stepped, inC, consoleInC, controllerInC, RecordOf, numbersOf, start, BoxesForCRight}
+use Rattle.demand3.proofs.AnyBoxes.{Row, Side, consoleSide, controllerSide, Shown-cells, ComesTo, Stays, Runs, BoxesStand, any-right}
+use Rattle.demand3.proofs.Boxes.{back-holds, numbering-suits, console-numbers, console-kept-so, console-runs, controller-numbers, controller-kept-so, controller-runs}
 
 -- ## What the byte says
 
@@ -117,25 +119,55 @@ record-holds : (end : ℕ) (r : NumberRecord) → endOf r ≡ end → numberOf r
 unfolding startOf if_then_else_
 record-holds end r e h g = ap (startIn end) (record-read-back r h g) ∙ rw (eq-eqb (endOf (renewed r)) end (renewed-end r ∙ e))
 
--- ## One law for both ends, over the end whose record it is
+-- ## One law for both ends
 
-module _ (end : ℕ) (record-of : Numbers → NumberRecord) (ended : (n : Numbers) → endOf (record-of n) ≡ end) (numbered : (n : Numbers) → numberOf (record-of n) ≡ n .reserved) (blocked : (n : Numbers) → blockOf (record-of n) ≡ n .block) (new : (n : Numbers) → isOld (record-of n) ≡ false) (same : (n : Numbers) → renewed (record-of n) ≡ record-of n) where
+-- an end that is run alone, in bytes: its fields, its number record, what it stands for, and what its calls come to
+pub record InBytes {s : Side numbering} {F : Kind} (R : Runs s F) : Type 1 where
+  pub size : ℕ
+  pub bytes : F .End → List ℕ
+  pub at : List ℕ → F .End
+  pub okay : F .End → Bool
+  pub numbers : F .End → Numbers
+  pub Typed : F .End → Type 0
+  pub long : (x : F .End) → Typed x → length (bytes x) ≡ size
+  pub read-back : (x : F .End) → Typed x → at (bytes x) ≡ x
+  pub sound : (x : F .End) → okay x ≡ true → numbering .sound (numbersMeans (numbers x)) ≡ true
+  pub end : ℕ
+  pub record-of : Numbers → NumberRecord
+  pub ended : (n : Numbers) → endOf (record-of n) ≡ end
+  pub numbered : (n : Numbers) → numberOf (record-of n) ≡ n .reserved
+  pub blocked : (n : Numbers) → blockOf (record-of n) ≡ n .block
+  pub new : (n : Numbers) → isOld (record-of n) ≡ false
+  pub same : (n : Numbers) → renewed (record-of n) ≡ record-of n
+  pub back : s .E → F .End
+  pub is-back : (x : F .End) (e : s .E) → R .Stands x e → x ≡ back e
+  pub stands-back : (e : s .E) → R .Stands (back e) e
+  pub held : (e : s .E) → (kept : F .Kept) × R .Holds kept (s .numbers e)
+  pub well : (e : s .E) → s .Fine e → (okay (back e) ≡ true) × Typed (back e)
+  pub back-numbers : (e : s .E) → numbers (back e) ≡ numbersBack (s .numbers e)
+  pub downed : Numbers → F .End
+  pub back-downed : (n : supply.Numbers) → downed (numbersBack n) ≡ back (s .downed n)
+  pub refuses : (x : F .End) (c : Call) → Typed x → (n : ℕ) → F .report (F .step x c) ≡ report.Refused n → Refusal n × ((F .sends (F .step x c) ≡ false) × (F .left (F .step x c) ≡ x))
+  pub delivered : F .Told → Call → List ℕ
+  pub delivers : (r : rules.Report Row) (d : F .Told) (c : Call) → F .report d ≡ reportBack r → s .Cells r (F .cells d) → s .Cells r (delivered d c)
+
+module _ {s : Side numbering} {F : Kind} {R : Runs s F} (I : InBytes R) where
   module _ (n : Numbers) (sound : numbering .sound (numbersMeans n) ≡ true) where
-    good : isGood (record-of n) ≡ true
-    good = rw (new n, blocked n) (sound-block (numbersMeans n) sound)
+    good : isGood (I .record-of n) ≡ true
+    good = rw (I .new n, I .blocked n) (sound-block (numbersMeans n) sound)
 
     -- the entry writes it
-    record-put : stateRecordPut true (record-of n) buffer ≡ recordBytes (record-of n)
+    record-put : stateRecordPut true (I .record-of n) buffer ≡ recordBytes (I .record-of n)
     unfolding stateRecordPut recordWritten recordWriteRefusal first if_then_else_
-    record-put = rw (good, new n)
+    record-put = rw (good, I .new n)
 
-    own-holds : Holds end (recordBytes (record-of n)) n
+    own-holds : Holds (I .end) (recordBytes (I .record-of n)) n
     own-holds =
-        record-holds end (record-of n) (ended n) (subst (λ (x : ℕ). x < 2 ^ 32) (sym (numbered n)) (sound-fits (numbersMeans n) sound .reserved)) good
-        ∙ rw (same n, numbered n, blocked n)
+        record-holds (I .end) (I .record-of n) (I .ended n) (subst (λ (x : ℕ). x < 2 ^ 32) (sym (I .numbered n)) (sound-fits (numbersMeans n) sound .reserved)) good
+        ∙ rw (I .same n, I .numbered n, I .blocked n)
 
     -- a record is kept where it has changed: what is kept then holds the numbers after the step
-    kept-holds : (before : Numbers) (kept : List ℕ) (keep : Bool) → keep ≡ changed before n → Holds end kept before → Holds end (if keep then stateRecordPut true (record-of n) buffer else kept) n
+    kept-holds : (before : Numbers) (kept : List ℕ) (keep : Bool) → keep ≡ changed before n → Holds (I .end) kept before → Holds (I .end) (if keep then stateRecordPut true (I .record-of n) buffer else kept) n
     unfolding if_then_else_
     kept-holds before kept true e h = rw record-put own-holds
     kept-holds before kept false e h =
@@ -146,464 +178,275 @@ module _ (end : ℕ) (record-of : Numbers → NumberRecord) (ended : (n : Number
         let y = eqb-true (before .block) (n .block) (and-right r b g) in
         h ∙ (λ i. record { refusal = 0; number = x i; block = y i })
 
--- ## A start after power loss
+  -- what an entry tells, leaves and keeps of a call of the end x that reports r, sends or not, and leaves y
+  module _ (x : F .End) (typed : I .Typed x) where
+    abbrev byte : Report → Bool → F .End → ℕ
+    byte r sent y = told r sent (changed (I .numbers x) (I .numbers y))
 
-console-starts : (s kept : List ℕ) (n : Numbers) → Holds 1 kept n → length s ≡ 37 → consoleStarts s kept ≡ consoleBytes (downedConsole (numbersKept (n .reserved) (n .block)))
-unfolding started startRefusal if_then_else_
-console-starts s kept n h l =
-    (λ i. started 37 s (h i) (consoleBytes (downedConsole (numbersKept (h i .number) (h i .block))))) ∙ rw (eq-eqb (length s) 37 l)
+    abbrev left : Report → F .End → List ℕ
+    left r y = if isRefusal r then I .bytes x else state.written (I .size) (I .bytes x) (I .bytes y)
 
-controller-starts : (s kept : List ℕ) (n : Numbers) → Holds 2 kept n → length s ≡ 23 → controllerStarts s kept ≡ controllerBytes (downedController (numbersKept (n .reserved) (n .block)))
-unfolding started startRefusal if_then_else_
-controller-starts s kept n h l =
-    (λ i. started 23 s (h i) (controllerBytes (downedController (numbersKept (h i .number) (h i .block))))) ∙ rw (eq-eqb (length s) 23 l)
+    abbrev keeps : Report → Bool → F .End → List ℕ → List ℕ
+    keeps r sent y kept = recordKept (byte r sent y) (I .okay (I .at (left r y))) (I .record-of (I .numbers (I .at (left r y)))) kept
 
--- ## The boxes in C that two ends stand for, with the records that are kept
+    pub record EntryTells (r : Report) (sent : Bool) (y : F .End) : Type 0 where
+      pub says : reportTold (byte r sent y) ≡ r
+      pub sends : sentTold (byte r sent y) ≡ sent
+      pub leaves : left r y ≡ I .bytes y
+      pub holds : (kept : List ℕ) → Holds (I .end) kept (I .numbers x) → Holds (I .end) (keeps r sent y kept) (I .numbers y)
+      pub stays : (n : ℕ) → r ≡ report.Refused n → (kept : List ℕ) → keeps r sent y kept ≡ kept
 
-abbrev inC : List ℕ → List ℕ → alone.Boxes → Boxes
-inC kept-J kept-I b =
+    refused-told : (n : ℕ) → Refusal n → EntryTells (report.Refused n) false x
+    unfolding recordKept if_then_else_
+    refused-told n h =
+        record { says = refusal-says n h; sends = refusal-sends n h; leaves = refl; holds = λ kept k. rw (refusal-keeps n h) k; stays = λ m e kept. rw (refusal-keeps n h) }
+
+    carried-told : (r : Report) (sent : Bool) (y : F .End) → isRefusal r ≡ false → (I .okay y ≡ true) × I .Typed y → EntryTells r sent y
+    unfolding recordKept state.written if_then_else_
+    carried-told r sent y e h =
+        let keep = changed (I .numbers x) (I .numbers y) in
+        let long = eq-eqb (length (I .bytes x)) (I .size) (I .long x typed) in
+        record {
+          says = says-told r sent keep e;
+          sends = sends-told r sent keep e;
+          leaves = rw (e, long);
+          holds =
+              λ kept k. rw (e, long, I .read-back y (h .1), h .0)
+              (kept-holds (I .numbers y) (I .sound y (h .0)) (I .numbers x) kept _ (keeps-told r sent keep e) k);
+          stays = λ n q kept. absurd (true≢false (sym (ap isRefusal q) ∙ e));
+        }
+
+    told-so : (r : Report) (sent : Bool) (y : F .End) → ((n : ℕ) → r ≡ report.Refused n → Refusal n × ((sent ≡ false) × (y ≡ x))) → (isRefusal r ≡ false → (I .okay y ≡ true) × I .Typed y) → EntryTells r sent y
+    told-so report.Nothing sent y refuses well = carried-told report.Nothing sent y refl (well refl)
+    told-so report.Delivered sent y refuses well = carried-told report.Delivered sent y refl (well refl)
+    told-so report.Ok sent y refuses well = carried-told report.Ok sent y refl (well refl)
+    told-so report.Lost sent y refuses well = carried-told report.Lost sent y refl (well refl)
+    told-so (report.Refused n) sent y refuses well =
+        let h = refuses n refl in
+        subst (λ (z : F .End). EntryTells (report.Refused n) sent z) (sym (h .1 .1)) (subst (λ (b : Bool). EntryTells (report.Refused n) b x) (sym (h .1 .0)) (refused-told n (h .0)))
+
+  -- what an entry's step makes of a state whose fields are z
+  abbrev entry : List ℕ → Call → F .End → Stepped
+  entry bytes c z =
+      let d = F .step z c in
+      record {
+        told = told (F .report d) (F .sends d) (changed (I .numbers z) (I .numbers (F .left d)));
+        state = if isRefusal (F .report d) then bytes else state.written (I .size) bytes (I .bytes (F .left d));
+        reply = F .reply d;
+        delivered = I .delivered d c;
+      }
+
+  -- the entries by these
+  abbrev kindOf : Kind
+  kindOf =
+      inC (λ s c. entry s c (I .at s)) (λ t kept. recordKept (t .told) (I .okay (I .at (t .state))) (I .record-of (I .numbers (I .at (t .state)))) kept)
+      (λ s kept. started (I .size) s (startIn (I .end) (recordRead kept)) (I .bytes (I .downed (numbersKept (startIn (I .end) (recordRead kept) .number) (startIn (I .end) (recordRead kept) .block)))))
+      (F .isFor)
+
+  abbrev Stands : List ℕ → s .E → Type 0
+  Stands z e = z ≡ I .bytes (I .back e)
+
+  abbrev RecordHolds : List ℕ → supply.Numbers → Type 0
+  RecordHolds kept n = Holds (I .end) kept (numbersBack n)
+
+  starts-so : (z : List ℕ) (e : s .E) (kept : List ℕ) (n : supply.Numbers) → Stands z e → s .Fine e → RecordHolds kept n → numbering .sound n ≡ true → Stands (kindOf .starts z kept) (s .downed (numbering .back n))
+  unfolding started startRefusal if_then_else_
+  starts-so z e kept n stands fine holds sound =
+      (λ i. started (I .size) z (holds i) (I .bytes (I .downed (numbersKept (holds i .number) (holds i .block)))))
+      ∙ rw (eq-eqb (length z) (I .size) (ap length stands ∙ I .long (I .back e) (I .well e fine .1)))
+      (ap (λ (m : Numbers). I .bytes (I .downed m)) (back-holds _ n refl sound) ∙ ap (I .bytes) (I .back-downed (numbering .back n)))
+
+  module _ (b : Bench supply.Numbers Row) (ack : Bool) (kept : List ℕ) (c : Call) (fine : s .Fine (s .end b ack)) where
+    abbrev e : s .E
+    e = s .end b ack
+
+    abbrev x : F .End
+    x = I .back e
+
+    abbrev d : F .Told
+    d = F .step x c
+
+    abbrev ComesTo-in-C : List ℕ → Type 0
+    ComesTo-in-C z = ComesTo s kindOf Stands RecordHolds b e kept c (kindOf .step z c)
+
+    tells : (isRefusal (F .report d) ≡ false → (I .okay (F .left d) ≡ true) × I .Typed (F .left d)) → EntryTells x (I .well e fine .1) (F .report d) (F .sends d) (F .left d)
+    tells well = told-so x (I .well e fine .1) (F .report d) (F .sends d) (F .left d) (I .refuses x c (I .well e fine .1)) well
+
+    comes-to-in-C : (k : F .Kept) → RecordHolds kept (s .numbers e) → Stays s b e → ComesTo s F (R .Stands) (R .Holds) b e k c d → ComesTo-in-C (I .bytes x)
+    comes-to-in-C k holds stays came =
+        subst (λ (z : F .End). ComesTo s kindOf Stands RecordHolds b e kept c (entry (I .bytes x) c z)) (sym (I .read-back x (I .well e fine .1)))
+        (⊎-map
+        (λ r.
+        let t = tells (λ q. absurd (true≢false (sym (ap isRefusal (r .says)) ∙ q))) in
+        record {
+          number = r .number;
+          says = t .says ∙ r .says;
+          sends = t .sends ∙ r .sends;
+          stands = t .leaves ∙ ap (I .bytes) (I .is-back (F .left d) e (r .stands));
+          keeps = t .stays (r .number) (r .says) kept;
+        })
+        (λ r.
+        let after = s .after e (r .act) in
+        let is = I .is-back (F .left d) after (r .stands) in
+        let t = tells (λ q. subst (λ (y : F .End). (I .okay y ≡ true) × I .Typed y) (sym is) (I .well after (stays (r .by) (r .place) (c .message) (r .act) (r .asked)))) in
+        record {
+          by = r .by;
+          named = r .named;
+          place = r .place;
+          act = r .act;
+          asked = r .asked;
+          says = t .says ∙ r .says;
+          cells = I .delivers (s .report e (r .act)) d c (r .says) (r .cells);
+          sends = t .sends ∙ r .sends;
+          reply = r .reply;
+          stands = t .leaves ∙ ap (I .bytes) is;
+          holds = subst (Holds (I .end) _) (ap (I .numbers) is ∙ I .back-numbers after) (t .holds kept (subst (Holds (I .end) kept) (sym (I .back-numbers e)) holds));
+        })
+        came)
+
+  abbrev runs-in-C : Runs s kindOf
+  runs-in-C =
+      record {
+        Stands = Stands;
+        Holds = RecordHolds;
+        again = λ kept n h. h;
+        starts = starts-so;
+        call =
+            λ b ack z kept c stands fine holds stays finds.
+            let e = s .end b ack in
+            let k = I .held e in
+            subst (ComesTo-in-C b ack kept c fine) (sym stands)
+            (comes-to-in-C b ack kept c fine (k .0) holds stays (R .call b ack (I .back e) (k .0) c (I .stands-back e) fine (k .1) stays finds));
+      }
+
+-- ## The console
+
+console-long : (x : Console) → console-trips.Typed x → length (consoleBytes x) ≡ 37
+unfolding consoleBytes bytesOf
+console-long x typed = rw (typed .message)
+
+abbrev console-in-bytes : InBytes console-runs
+console-in-bytes =
     record {
-      console = consoleBytes (b .console);
-      console-kept = kept-J;
-      controller = controllerBytes (b .controller);
-      controller-kept = kept-I;
-      toController = b .toController;
-      toConsole = b .toConsole;
+      size = 37;
+      bytes = consoleBytes;
+      at = consoleAt;
+      okay = consoleOk;
+      numbers = λ x. x .numbers;
+      Typed = console-trips.Typed;
+      long = console-long;
+      read-back = console-trips.console-read-back;
+      sound = console-read.ok-sound;
+      end = 1;
+      record-of = λ n. number-record.Console (record { 0 = n .reserved }) (n .block);
+      ended = λ n. refl;
+      numbered = λ n. refl;
+      blocked = λ n. refl;
+      new = λ n. refl;
+      same = λ n. refl;
+      back = consoleBack;
+      is-back = λ x e stands. stands;
+      stands-back = λ e. refl;
+      held = λ e. (_, console-kept-so e);
+      well = λ e fine. console-left.fields-left (e .history) (e .ack) fine;
+      back-numbers = console-numbers;
+      downed = downedConsole;
+      back-downed = λ n. refl;
+      refuses =
+          λ x c typed n q.
+          let f = console-refusal-leaves x (typed .message) (c .message) (c .reply) (c .letter) (c .packet) n q in
+          (console-refusal-number x (c .message) (c .packet) (c .reply) (c .letter) n q, (ap (λ (d : ConsoleAlone). d .outcome .sent) f, ap (λ (d : ConsoleAlone). d .outcome .console) f));
+      delivered = λ d c. [];
+      delivers = λ r d c says cells. tt;
     }
 
--- a call without the bytes lent for a delivery
-abbrev plain : Event → alone.Event
-plain (at-console w l m p y) = alone.at-console w l m p y
-plain (at-controller w l p y lent) = alone.at-controller w l p y
+abbrev console-runs-in-C : Runs (consoleSide numbering) consoleInC
+console-runs-in-C = runs-in-C console-in-bytes
 
--- ## A call of the console
+-- ## The controller
 
-abbrev console-record : Numbers → NumberRecord
-console-record n = number-record.Console (record { 0 = n .reserved }) (n .block)
+controller-long : (x : Controller) → controller-trips.Typed x → length (controllerBytes x) ≡ 23
+unfolding controllerBytes bytesOf
+controller-long x typed = refl
 
-abbrev controller-record : Numbers → NumberRecord
-controller-record n = number-record.Controller (record { 0 = n .reserved }) (n .block)
+-- the bytes lent for a delivery are written with a delivery alone
+lent-cells : (r : rules.Report Row) (q : Report) (m lent : List ℕ) → q ≡ reportBack r → Shown-cells r m → Shown-cells r (deliveredTo q m lent)
+lent-cells rules.nothing q m lent e h = tt
+lent-cells (rules.delivered x) q m lent e h = ap (λ (z : Report). deliveredTo z m lent) e ∙ h
+lent-cells rules.answered-ok q m lent e h = tt
+lent-cells rules.answered-lost q m lent e h = tt
+lent-cells (rules.refused n) q m lent e h = tt
 
-module _ (c : Console) (typed : console-trips.Typed c) where
-  console-long : length (consoleBytes c) ≡ 37
-  unfolding consoleBytes bytesOf
-  console-long = rw (typed .message)
+abbrev controller-in-bytes : InBytes controller-runs
+controller-in-bytes =
+    record {
+      size = 23;
+      bytes = controllerBytes;
+      at = controllerAt;
+      okay = controllerOk;
+      numbers = λ x. x .numbers;
+      Typed = controller-trips.Typed;
+      long = controller-long;
+      read-back = controller-trips.controller-read-back;
+      sound = controller-read.ok-sound;
+      end = 2;
+      record-of = λ n. number-record.Controller (record { 0 = n .reserved }) (n .block);
+      ended = λ n. refl;
+      numbered = λ n. refl;
+      blocked = λ n. refl;
+      new = λ n. refl;
+      same = λ n. refl;
+      back = controllerBack;
+      is-back = λ x e stands. stands;
+      stands-back = λ e. refl;
+      held = λ e. (_, controller-kept-so e);
+      well = controller-left.fields-left;
+      back-numbers = controller-numbers;
+      downed = downedController;
+      back-downed = λ n. refl;
+      refuses =
+          λ x c typed n q.
+          let f = controller-refusal-leaves x (c .reply) (c .letter) (c .packet) n q in
+          (controller-refusal-number x (c .packet) (c .reply) (c .letter) n q, (ap (λ (d : ControllerAlone). d .outcome .sent) f, ap (λ (d : ControllerAlone). d .outcome .controller) f));
+      delivered = λ d c. deliveredTo (d .outcome .report) (d .outcome .message) (c .lent);
+      delivers = λ r d c says cells. lent-cells r (d .outcome .report) (d .outcome .message) (c .lent) says cells;
+    }
 
-  -- what the entry tells and leaves, by what the console run alone comes to
-  abbrev console-tells : ConsoleAlone → ConsoleStep
-  console-tells d =
-      record {
-        told = told (d .outcome .report) (d .outcome .sent) (changed (c .numbers) (d .outcome .console .numbers));
-        state = if isRefusal (d .outcome .report) then consoleBytes c else state.written 37 (consoleBytes c) (consoleBytes (d .outcome .console));
-        reply = d .reply;
-      }
-
-  console-steps : (l : ℕ) (m p y : List ℕ) → consoleStep (consoleBytes c) l m p y ≡ console-tells (consoleAlone c l m p y)
-  console-steps l m p y =
-      ap
-      (λ (z : Console).
-      record {
-        told = told (consoleAlone z l m p y .outcome .report) (consoleAlone z l m p y .outcome .sent) (changed (z .numbers) (consoleAlone z l m p y .outcome .console .numbers));
-        state =
-            if isRefusal (consoleAlone z l m p y .outcome .report) then consoleBytes c
-            else state.written 37 (consoleBytes c) (consoleBytes (consoleAlone z l m p y .outcome .console));
-        reply = consoleAlone z l m p y .reply;
-      })
-      (console-trips.console-read-back c typed)
-
-  -- told and left is what the end comes to, and the record that is kept holds its numbers
-  pub record Console-told (d : ConsoleAlone) : Type 0 where
-    pub sends : sentTold (console-tells d .told) ≡ d .outcome .sent
-    pub says : reportTold (console-tells d .told) ≡ d .outcome .report
-    pub leaves : console-tells d .state ≡ consoleBytes (d .outcome .console)
-    pub keeps : (kept : List ℕ) → Holds 1 kept (c .numbers) → Holds 1 (consoleKeeps (console-tells d) kept) (d .outcome .console .numbers)
-
-  console-refused-told : (n : ℕ) (y : List ℕ) → Refusal n → Console-told (consoleRefused n c y)
-  unfolding consoleKeeps if_then_else_
-  console-refused-told n y h = record { sends = refusal-sends n h; says = refusal-says n h; leaves = refl; keeps = λ kept k. rw (refusal-keeps n h) k }
-
-  console-carried-told : (d : ConsoleAlone) → isRefusal (d .outcome .report) ≡ false → consoleOk (d .outcome .console) ≡ true → console-trips.Typed (d .outcome .console) → Console-told d
-  unfolding consoleKeeps state.written if_then_else_
-  console-carried-told d e ok left =
-      let keep = changed (c .numbers) (d .outcome .console .numbers) in
-      let back = console-trips.console-read-back (d .outcome .console) left in
-      record {
-        sends = sends-told (d .outcome .report) (d .outcome .sent) keep e;
-        says = says-told (d .outcome .report) (d .outcome .sent) keep e;
-        leaves = rw (e, eq-eqb (length (consoleBytes c)) 37 console-long);
-        keeps =
-            λ kept k.
-            rw (e, eq-eqb (length (consoleBytes c)) 37 console-long, back, ok)
-            (kept-holds 1 console-record (λ n. refl) (λ n. refl) (λ n. refl) (λ n. refl) (λ n. refl) (d .outcome .console .numbers) (console-read.ok-sound (d .outcome .console) ok) (c .numbers) kept _ (keeps-told (d .outcome .report) (d .outcome .sent) keep e) k);
-      }
-
--- ## A call of the controller
-
-module _ (c : Controller) (typed : controller-trips.Typed c) where
-  controller-long : length (controllerBytes c) ≡ 23
-  unfolding controllerBytes bytesOf
-  controller-long = refl
-
-  abbrev controller-tells : List ℕ → ControllerAlone → ControllerStep
-  controller-tells lent d =
-      record {
-        told = told (d .outcome .report) (d .outcome .sent) (changed (c .numbers) (d .outcome .controller .numbers));
-        state = if isRefusal (d .outcome .report) then controllerBytes c else state.written 23 (controllerBytes c) (controllerBytes (d .outcome .controller));
-        reply = d .reply;
-        delivered = deliveredTo (d .outcome .report) (d .outcome .message) lent;
-      }
-
-  controller-steps : (l : ℕ) (p y lent : List ℕ) → controllerStep (controllerBytes c) l p y lent ≡ controller-tells lent (controllerAlone c l p y)
-  controller-steps l p y lent =
-      ap
-      (λ (z : Controller).
-      record {
-        told = told (controllerAlone z l p y .outcome .report) (controllerAlone z l p y .outcome .sent) (changed (z .numbers) (controllerAlone z l p y .outcome .controller .numbers));
-        state =
-            if isRefusal (controllerAlone z l p y .outcome .report) then controllerBytes c
-            else state.written 23 (controllerBytes c) (controllerBytes (controllerAlone z l p y .outcome .controller));
-        reply = controllerAlone z l p y .reply;
-        delivered = deliveredTo (controllerAlone z l p y .outcome .report) (controllerAlone z l p y .outcome .message) lent;
-      })
-      (controller-trips.controller-read-back c typed)
-
-  pub record Controller-told (lent : List ℕ) (d : ControllerAlone) : Type 0 where
-    pub sends : sentTold (controller-tells lent d .told) ≡ d .outcome .sent
-    pub says : reportTold (controller-tells lent d .told) ≡ d .outcome .report
-    pub leaves : controller-tells lent d .state ≡ controllerBytes (d .outcome .controller)
-    pub keeps : (kept : List ℕ) → Holds 2 kept (c .numbers) → Holds 2 (controllerKeeps (controller-tells lent d) kept) (d .outcome .controller .numbers)
-
-  controller-refused-told : (lent : List ℕ) (n : ℕ) (y : List ℕ) → Refusal n → Controller-told lent (controllerRefused n c y)
-  unfolding controllerKeeps if_then_else_
-  controller-refused-told lent n y h = record { sends = refusal-sends n h; says = refusal-says n h; leaves = refl; keeps = λ kept k. rw (refusal-keeps n h) k }
-
-  controller-carried-told : (lent : List ℕ) (d : ControllerAlone) → isRefusal (d .outcome .report) ≡ false → controllerOk (d .outcome .controller) ≡ true → controller-trips.Typed (d .outcome .controller) → Controller-told lent d
-  unfolding controllerKeeps state.written if_then_else_
-  controller-carried-told lent d e ok left =
-      let keep = changed (c .numbers) (d .outcome .controller .numbers) in
-      let back = controller-trips.controller-read-back (d .outcome .controller) left in
-      record {
-        sends = sends-told (d .outcome .report) (d .outcome .sent) keep e;
-        says = says-told (d .outcome .report) (d .outcome .sent) keep e;
-        leaves = rw (e, eq-eqb (length (controllerBytes c)) 23 controller-long);
-        keeps =
-            λ kept k.
-            rw (e, eq-eqb (length (controllerBytes c)) 23 controller-long, back, ok)
-            (kept-holds 2 controller-record (λ n. refl) (λ n. refl) (λ n. refl) (λ n. refl) (λ n. refl) (d .outcome .controller .numbers) (controller-read.ok-sound (d .outcome .controller) ok) (c .numbers) kept _ (keeps-told (d .outcome .report) (d .outcome .sent) keep e) k);
-      }
-
--- ## Where the rules' link stands
-
-module _ (k : Here) (ok : Ok (k .history)) where
-  console-at : console-trips.Typed (boxesOf k .console)
-  console-at = console-left.fields-left (k .history .bench .console) (k .ack) (ok .console) .1
-
-  controller-at : controller-trips.Typed (boxesOf k .controller)
-  controller-at = controller-left.fields-left (k .history .bench .controller) (ok .controller) .1
-
-  console-well : consoleOk (boxesOf k .console) ≡ true
-  console-well = console-left.fields-left (k .history .bench .console) (k .ack) (ok .console) .0
-
-  controller-well : controllerOk (boxesOf k .controller) ≡ true
-  controller-well = controller-left.fields-left (k .history .bench .controller) (ok .controller) .0
-
-  -- the link that an event leads to
-  pub record Next (e : alone.Event) : Type 0 where
-    pub link : Here
-    pub fine : Ok (link .history)
-    pub kept : Kept (link .history)
-    pub is : alone.after (boxesOf k) e ≡ boxesOf link
-
-  next : Kept (k .history) → (e : alone.Event) → alone.Honest (boxesOf k) e → Next e
-  next kept e h = by (moved k ok kept e h)
-    where
-      by : Moved k e → Next e
-      by (inl (n, s)) = record { link = k; fine = ok; kept = kept; is = s }
-      by (inr (x, (n, s))) =
-          record { link = read-happens numbering isMessage k x .after; fine = next-ok k x ok; kept = next-kept k x kept; is = s }
-
--- ## Every event
-
--- what C's boxes come to are these boxes, whatever the records that are kept
-abbrev Goes : Boxes → alone.Boxes → Type 0
-Goes z b = z ≡ inC (z .console-kept) (z .controller-kept) b
-
--- each box has kept a record that holds its end's numbers
-pub record Holding (z : Boxes) (b : alone.Boxes) : Type 0 where
-  pub console : Holds 1 (z .console-kept) (b .console-kept)
-  pub controller : Holds 2 (z .controller-kept) (b .controller-kept)
-
-pub record Same (k : Here) (kept-J kept-I : List ℕ) (e : Event) : Type 0 where
-  pub goes : Goes (after (inC kept-J kept-I (boxesOf k)) e) (alone.after (boxesOf k) (plain e))
-  pub holding : Holding (after (inC kept-J kept-I (boxesOf k)) e) (alone.after (boxesOf k) (plain e))
-  pub shown : shows (inC kept-J kept-I (boxesOf k)) e ≡ alone.shows (boxesOf k) (plain e)
-
-module _ (k : Here) (ok : Ok (k .history)) (kept : Kept (k .history)) where
-  abbrev b : alone.Boxes
-  b = boxesOf k
-
-  -- what the box has kept is the console's
-  console-kept-is : b .console-kept ≡ consoleKept (b .console)
-  console-kept-is = ap numbersBack (kept .console) ∙ sym (console-kept-so (k .history .bench .console) (k .ack) (ok .console .numbers))
-
-  controller-kept-is : b .controller-kept ≡ controllerKept (b .controller)
-  controller-kept-is = ap numbersBack (kept .controller) ∙ sym (controller-kept-so (k .history .bench .controller) (ok .controller .numbers))
-
-  -- what is told and left, of any call
-  console-is-told : (l : ℕ) (m p y : List ℕ) → alone.Honest b (alone.at-console through l m p y) → Console-told (b .console) (console-at k ok) (consoleAlone (b .console) l m p y)
-  console-is-told l m p y h = by (consoleAlone (b .console) l m p y .outcome .report) refl
-    where
-      d : ConsoleAlone
-      d = consoleAlone (b .console) l m p y
-
-      carried : isRefusal (d .outcome .report) ≡ false → Console-told (b .console) (console-at k ok) d
-      carried e =
-          let n = next k ok kept (alone.at-console through l m p y) h in
-          let same : d .outcome .console ≡ boxesOf (n .link) .console = ap (λ (x : alone.Boxes). x .console) (n .is) in
-          console-carried-told (b .console) (console-at k ok) d e (subst (λ (c : Console). consoleOk c ≡ true) (sym same) (console-well (n .link) (n .fine)))
-          (subst console-trips.Typed (sym same) (console-at (n .link) (n .fine)))
-
-      by : (r : Report) → d .outcome .report ≡ r → Console-told (b .console) (console-at k ok) d
-      by report.Nothing e = carried (ap isRefusal e)
-      by report.Delivered e = carried (ap isRefusal e)
-      by report.Ok e = carried (ap isRefusal e)
-      by report.Lost e = carried (ap isRefusal e)
-      by (report.Refused n) e =
-          subst (Console-told (b .console) (console-at k ok)) (sym (console-refusal-leaves (b .console) (console-at k ok .message) m y l p n e))
-          (console-refused-told (b .console) (console-at k ok) n y (console-refusal-number (b .console) m p y l n e))
-
-  controller-is-told : (l : ℕ) (p y lent : List ℕ) → alone.Honest b (alone.at-controller through l p y) → Controller-told (b .controller) (controller-at k ok) lent (controllerAlone (b .controller) l p y)
-  controller-is-told l p y lent h = by (controllerAlone (b .controller) l p y .outcome .report) refl
-    where
-      d : ControllerAlone
-      d = controllerAlone (b .controller) l p y
-
-      carried : isRefusal (d .outcome .report) ≡ false → Controller-told (b .controller) (controller-at k ok) lent d
-      carried e =
-          let n = next k ok kept (alone.at-controller through l p y) h in
-          let same : d .outcome .controller ≡ boxesOf (n .link) .controller = ap (λ (x : alone.Boxes). x .controller) (n .is) in
-          controller-carried-told (b .controller) (controller-at k ok) lent d e (subst (λ (c : Controller). controllerOk c ≡ true) (sym same) (controller-well (n .link) (n .fine)))
-          (subst controller-trips.Typed (sym same) (controller-at (n .link) (n .fine)))
-
-      by : (r : Report) → d .outcome .report ≡ r → Controller-told (b .controller) (controller-at k ok) lent d
-      by report.Nothing e = carried (ap isRefusal e)
-      by report.Delivered e = carried (ap isRefusal e)
-      by report.Ok e = carried (ap isRefusal e)
-      by report.Lost e = carried (ap isRefusal e)
-      by (report.Refused n) e =
-          subst (Controller-told (b .controller) (controller-at k ok) lent) (sym (controller-refusal-leaves (b .controller) y l p n e))
-          (controller-refused-told (b .controller) (controller-at k ok) lent n y (controller-refusal-number (b .controller) p y l n e))
-
-  -- the bytes lent for a delivery are looked at with a delivery alone
-  same-cells : (l : ℕ) (r : Report) (m lent : List ℕ) → called l [] r (deliveredTo r m lent) ≡ called l [] r m
-  same-cells l report.Nothing m lent = refl
-  same-cells l report.Delivered m lent = refl
-  same-cells l report.Ok m lent = refl
-  same-cells l report.Lost m lent = refl
-  same-cells l (report.Refused n) m lent = refl
-
-  module _ (l : ℕ) (m p y : List ℕ) (h : alone.Honest b (alone.at-console through l m p y)) (kept-J kept-I : List ℕ) (holds : Holding (inC kept-J kept-I b) b) where
-    abbrev d : ConsoleAlone
-    d = consoleAlone (b .console) l m p y
-
-    abbrev t : ConsoleStep
-    t = console-tells (b .console) (console-at k ok) d
-
-    abbrev f : Console-told (b .console) (console-at k ok) d
-    f = console-is-told l m p y h
-
-    console-before : Holds 1 kept-J (b .console .numbers)
-    console-before = subst (Holds 1 kept-J) console-kept-is (holds .console)
-
-    console-keeps : Holds 1 (consoleKeeps t kept-J) (d .outcome .console .numbers)
-    console-keeps = f .keeps kept-J console-before
-
-    console-goes : (w : Reach) → Goes (consoleGoes w t (inC kept-J kept-I b)) (alone.consoleGoes w d b)
-    console-goes through =
-        λ i.
-        record {
-          console = f .leaves i;
-          console-kept = consoleKeeps t kept-J;
-          controller = controllerBytes (b .controller);
-          controller-kept = kept-I;
-          toController = leaves (f .sends i) (d .reply) (b .toController);
-          toConsole = b .toConsole;
-        }
-    console-goes kept-and-cut =
-        let begins = console-starts (consoleBytes (b .console)) (consoleKeeps t kept-J) (d .outcome .console .numbers) console-keeps (console-long (b .console) (console-at k ok)) in
-        λ i.
-        record {
-          console = begins i;
-          console-kept = consoleKeeps t kept-J;
-          controller = controllerBytes (b .controller);
-          controller-kept = kept-I;
-          toController = b .toController;
-          toConsole = b .toConsole;
-        }
-    console-goes cut =
-        let begins = console-starts (consoleBytes (b .console)) kept-J (b .console .numbers) console-before (console-long (b .console) (console-at k ok)) ∙ ap (λ (n : Numbers). consoleBytes (downedConsole n)) (sym console-kept-is) in
-        λ i.
-        record {
-          console = begins i;
-          console-kept = kept-J;
-          controller = controllerBytes (b .controller);
-          controller-kept = kept-I;
-          toController = b .toController;
-          toConsole = b .toConsole;
-        }
-
-    console-holding : (w : Reach) → Holding (consoleGoes w t (inC kept-J kept-I b)) (alone.consoleGoes w d b)
-    console-holding through = record { console = console-keeps; controller = holds .controller }
-    console-holding kept-and-cut = record { console = console-keeps; controller = holds .controller }
-    console-holding cut = record { console = holds .console; controller = holds .controller }
-
-    console-shows : (w : Reach) → consoleShows w l m t ≡ alone.consoleShows w l m d
-    console-shows through = ap (λ (r : Report). called l m r []) (f .says)
-    console-shows kept-and-cut = refl
-    console-shows cut = refl
-
-    console-same : (w : Reach) → Same k kept-J kept-I (at-console w l m p y)
-    console-same w =
-        let s = sym (console-steps (b .console) (console-at k ok) l m p y) in
-        record {
-          goes = subst (λ (x : ConsoleStep). Goes (consoleGoes w x (inC kept-J kept-I b)) (alone.consoleGoes w d b)) s (console-goes w);
-          holding = subst (λ (x : ConsoleStep). Holding (consoleGoes w x (inC kept-J kept-I b)) (alone.consoleGoes w d b)) s (console-holding w);
-          shown = ap (consoleShows w l m) (sym s) ∙ console-shows w;
-        }
-
-  module _ (l : ℕ) (p y lent : List ℕ) (h : alone.Honest b (alone.at-controller through l p y)) (kept-J kept-I : List ℕ) (holds : Holding (inC kept-J kept-I b) b) where
-    abbrev e : ControllerAlone
-    e = controllerAlone (b .controller) l p y
-
-    abbrev u : ControllerStep
-    u = controller-tells (b .controller) (controller-at k ok) lent e
-
-    abbrev g : Controller-told (b .controller) (controller-at k ok) lent e
-    g = controller-is-told l p y lent h
-
-    controller-before : Holds 2 kept-I (b .controller .numbers)
-    controller-before = subst (Holds 2 kept-I) controller-kept-is (holds .controller)
-
-    controller-keeps : Holds 2 (controllerKeeps u kept-I) (e .outcome .controller .numbers)
-    controller-keeps = g .keeps kept-I controller-before
-
-    controller-goes : (w : Reach) → Goes (controllerGoes w u (inC kept-J kept-I b)) (alone.controllerGoes w e b)
-    controller-goes through =
-        λ i.
-        record {
-          console = consoleBytes (b .console);
-          console-kept = kept-J;
-          controller = g .leaves i;
-          controller-kept = controllerKeeps u kept-I;
-          toController = b .toController;
-          toConsole = leaves (g .sends i) (e .reply) (b .toConsole);
-        }
-    controller-goes kept-and-cut =
-        let begins = controller-starts (controllerBytes (b .controller)) (controllerKeeps u kept-I) (e .outcome .controller .numbers) controller-keeps (controller-long (b .controller) (controller-at k ok)) in
-        λ i.
-        record {
-          console = consoleBytes (b .console);
-          console-kept = kept-J;
-          controller = begins i;
-          controller-kept = controllerKeeps u kept-I;
-          toController = b .toController;
-          toConsole = b .toConsole;
-        }
-    controller-goes cut =
-        let begins = controller-starts (controllerBytes (b .controller)) kept-I (b .controller .numbers) controller-before (controller-long (b .controller) (controller-at k ok)) ∙ ap (λ (n : Numbers). controllerBytes (downedController n)) (sym controller-kept-is) in
-        λ i.
-        record {
-          console = consoleBytes (b .console);
-          console-kept = kept-J;
-          controller = begins i;
-          controller-kept = kept-I;
-          toController = b .toController;
-          toConsole = b .toConsole;
-        }
-
-    controller-holding : (w : Reach) → Holding (controllerGoes w u (inC kept-J kept-I b)) (alone.controllerGoes w e b)
-    controller-holding through = record { controller = controller-keeps; console = holds .console }
-    controller-holding kept-and-cut = record { controller = controller-keeps; console = holds .console }
-    controller-holding cut = record { console = holds .console; controller = holds .controller }
-
-    controller-shows : (w : Reach) → controllerShows w l u ≡ alone.controllerShows w l e
-    controller-shows through = ap (λ (r : Report). called l [] r (u .delivered)) (g .says) ∙ same-cells l (e .outcome .report) (e .outcome .message) lent
-    controller-shows kept-and-cut = refl
-    controller-shows cut = refl
-
-    controller-same : (w : Reach) → Same k kept-J kept-I (at-controller w l p y lent)
-    controller-same w =
-        let s = sym (controller-steps (b .controller) (controller-at k ok) l p y lent) in
-        record {
-          goes = subst (λ (x : ControllerStep). Goes (controllerGoes w x (inC kept-J kept-I b)) (alone.controllerGoes w e b)) s (controller-goes w);
-          holding = subst (λ (x : ControllerStep). Holding (controllerGoes w x (inC kept-J kept-I b)) (alone.controllerGoes w e b)) s (controller-holding w);
-          shown = ap (controllerShows w l) (sym s) ∙ controller-shows w;
-        }
-
-  same : (kept-J kept-I : List ℕ) → Holding (inC kept-J kept-I b) b → (x : Event) → Honest (inC kept-J kept-I b) x → Same k kept-J kept-I x × alone.Honest b (plain x)
-  same kept-J kept-I holds (at-console w l m p y) h = (console-same l m p y h kept-J kept-I holds w, h)
-  same kept-J kept-I holds (at-controller w l p y lent) h = (controller-same l p y lent h kept-J kept-I holds w, h)
-
--- ## All of them
-
-abbrev All-same : Here → List ℕ → List ℕ → List Event → Type 0
-All-same k kept-J kept-I es = alone.AllHonest (boxesOf k) (map plain es) × (allShown (inC kept-J kept-I (boxesOf k)) es ≡ alone.allShown (boxesOf k) (map plain es))
-
-all-same : (k : Here) → Ok (k .history) → Kept (k .history) → (kept-J kept-I : List ℕ) → Holding (inC kept-J kept-I (boxesOf k)) (boxesOf k) → (es : List Event) → AllHonest (inC kept-J kept-I (boxesOf k)) es → All-same k kept-J kept-I es
-unfolding allShown alone.allShown
-all-same k ok kept kept-J kept-I holds [] h = (tt, refl)
-all-same k ok kept kept-J kept-I holds (x ∷ es) h =
-    let s = same k ok kept kept-J kept-I holds x (h .0) in
-    let n = next k ok kept (plain x) (s .1) in
-    let z = after (inC kept-J kept-I (boxesOf k)) x in
-    let there : z ≡ inC (z .console-kept) (z .controller-kept) (boxesOf (n .link)) = s .0 .goes ∙ ap (inC (z .console-kept) (z .controller-kept)) (n .is) in
-    let holding : Holding (inC (z .console-kept) (z .controller-kept) (boxesOf (n .link))) (boxesOf (n .link)) = (let q = subst (Holding z) (n .is) (s .0 .holding) in record { console = q .console; controller = q .controller }) in
-    let more = all-same (n .link) (n .fine) (n .kept) (z .console-kept) (z .controller-kept) holding es (subst (λ (y : Boxes). AllHonest y es) there (h .1)) in
-    let back = sym (n .is) in (
-      (s .1, subst (λ (y : alone.Boxes). alone.AllHonest y (map plain es)) back (more .0)),
-      ap₂ (λ y w. y ∷ w) (s .0 .shown)
-          (ap (λ (y : Boxes). allShown y es) there ∙ more .1 ∙ ap (λ (y : alone.Boxes). alone.allShown y (map plain es)) back),
-    )
+abbrev controller-runs-in-C : Runs (controllerSide numbering) controllerInC
+controller-runs-in-C = runs-in-C controller-in-bytes
 
 -- ## The theorem
 
 -- a record's numbers are sound
-stored : (end : ℕ) (r : NumberRecord) → RecordOf end r → alone.Stored (numbersOf r)
-stored end r p =
+stored-sound : (end : ℕ) (r : NumberRecord) → RecordOf end r → numbering .sound (numbersMeans (numbersOf r)) ≡ true
+stored-sound end r p =
     let b = blockOf (renewed r) in
     let g = renewed-block r (p .good) in
-    record {
-      all-used = refl;
-      sound =
-          sound-so (numbersMeans (numbersOf r))
-          (record {
-            below = le-refl (numberOf (renewed r));
-            most = subst (λ (n : ℕ). n ≤ largest) (sym (renewed-number r)) (omega (arith, p .fits));
-            least-block = leb-true 1 b (and-left (leb 1 b) (leb b 1024) g);
-            most-block = leb-true b 1024 (and-right (leb 1 b) (leb b 1024) g);
-          });
-    }
+    sound-so (numbersMeans (numbersOf r))
+    (record {
+      below = le-refl (numberOf (renewed r));
+      most = subst (λ (n : ℕ). n ≤ largest) (sym (renewed-number r)) (omega (arith, p .fits));
+      least-block = leb-true 1 b (and-left (leb 1 b) (leb b 1024) g);
+      most-block = leb-true b 1024 (and-right (leb 1 b) (leb b 1024) g);
+    })
 
 module _ (j i : NumberRecord) (p : RecordOf 1 j) (q : RecordOf 2 i) (es : List Event) (honest : AllHonest (start j i) es) where
-  begun : All-same (unread (radio.start (numbersMeans (numbersOf j)) (numbersMeans (numbersOf i)))) (recordBytes j) (recordBytes i) es
+  abbrev J : Numbers
+  J = numbersOf j
+
+  abbrev I : Numbers
+  I = numbersOf i
+
+  standing : BoxesStand console-runs-in-C controller-runs-in-C (start j i) (unread (radio.start (numbersMeans J) (numbersMeans I)))
   unfolding bench.fresh
-  begun =
-      all-same (unread (radio.start (numbersMeans (numbersOf j)) (numbersMeans (numbersOf i))))
-      (from-ok (numbersOf j) (numbersOf i) (stored 1 j p) (stored 2 i q)) (from-kept (numbersOf j) (numbersOf i) (stored 1 j p) (stored 2 i q))
-      (recordBytes j) (recordBytes i)
-      (record { console = record-holds 1 j (p .own) (p .fits) (p .good); controller = record-holds 2 i (q .own) (q .fits) (q .good) }) es honest
+  standing =
+      record {
+        console = record { stands = refl; holds = record-holds 1 j (p .own) (p .fits) (p .good); kept-is = ap numbersMeans (back-holds J (numbersMeans J) refl (stored-sound 1 j p)); sent-is = refl };
+        controller = record { stands = refl; holds = record-holds 2 i (q .own) (q .fits) (q .good); kept-is = ap numbersMeans (back-holds I (numbersMeans I) refl (stored-sound 2 i q)); sent-is = refl };
+      }
 
   pub boxes-for-c-right : BoxesForCRight j i es
-  unfolding bench.fresh
-  boxes-for-c-right =
-      let r = boxes-right (numbersOf j) (numbersOf i) (stored 1 j p) (stored 2 i q) (map plain es) (begun .0) in
-      record {
-        happenings = r .happenings;
-        right = r .right;
-        own = r .own ∙ ap (λ (l : List (Option (log.Event Row))). written (firsts false l) []) (sym (begun .1));
-        spare = ap (spares-lost false) (begun .1) ∙ r .spare;
-        history = r .history;
-      }
+  boxes-for-c-right = any-right numbering-suits (start j i) (numbersMeans J) (numbersMeans I) (stored-sound 1 j p) (stored-sound 2 i q) standing es honest
 
   -- in plain words
   pub boxes-for-c-plain : Plain-read (radio-read-log numbering isMessage (numbersMeans (numbersOf j)) (numbersMeans (numbersOf i)) (boxes-for-c-right .happenings))

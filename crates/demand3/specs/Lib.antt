@@ -1,3 +1,4 @@
+pub mod AnyBoxes
 pub mod BenchForC
 pub mod Boxes
 pub mod BoxesForC

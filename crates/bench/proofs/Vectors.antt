@@ -25,7 +25,7 @@ use Rattle.ends.specs.declared.Report.the-variants as report
 use Rattle.ends_console.specs.declared.fields.Console.{Console}
 use Rattle.ends_controller.specs.declared.fields.Controller.{Controller}
 use Rattle.channels.specs.Packets.{toControllerBytes, toControllerRead, toConsoleBytes, toConsoleRead}
-use Rattle.channels.specs.Table.{laid, channel, packets, placesOk, tableOk}
+use Rattle.channels.specs.Table.{laid, channel, packets, headsPass, tableOk}
 use Rattle.bench.specs.AsRules.{benchOk, benchMeans, benchBack}
 use Rattle.bench.specs.Promise.{Result, benchRefused, benchTold, benchStep, benchFresh}
 use Rattle.bench.specs.declared.Action.{Action}
@@ -34,7 +34,7 @@ use Rattle.bench.specs.declared.Bench.{Bench}
 -- for proofs: `unfolding computes` opens all that a step is made of
 unfoldable pub computes : Unit {0}
 unfolding benchStep benchFresh benchRefused benchTold benchBack benchMeans benchOk consoleOk consoleMode controllerOk controllerMode tableOk
-    placesOk packets channel laid toControllerBytes toControllerRead toConsoleBytes toConsoleRead packetBytes packetRead readRefusal headAt headOf
+    headsPass packets channel laid toControllerBytes toControllerRead toConsoleBytes toConsoleRead packetBytes packetRead readRefusal headAt headOf
     value bytesOf isBlank isMessage cells filled letters among letter rules.rules readings numbers-rules if_then_else_
 computes = tt
 

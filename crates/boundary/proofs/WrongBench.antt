@@ -34,7 +34,7 @@ use Rattle.ends_console.specs.declared.Mode.the-variants.{NeedI}
 use Rattle.ends.specs.declared.Report.the-variants as report
 use Rattle.channels.specs.Packets.{toControllerBytes}
 use Rattle.tables.specs.Shown.{showRefusal}
-use Rattle.channels.specs.Table.{laid, channel, packets, placesOk, tableOk}
+use Rattle.channels.specs.Table.{laid, channel, packets, headsPass, tableOk}
 use Rattle.bench.specs.AsRules.{benchOk, benchMeans, benchBack}
 use Rattle.bench.specs.Promise.{Result, benchRefused, benchTold, benchStep, benchFresh}
 use Rattle.bench.specs.declared.Action.{Action}
@@ -85,7 +85,7 @@ unfolding benchAt partsAt benchBytes console.consoleBytes console.consoleAt cons
 reads-back = refl
 
 sends : benchStep (asking 0) asks-once clear clear ≡ asked
-unfolding benchStep benchTold benchBack benchMeans benchOk consoleOk consoleMode controllerOk controllerMode tableOk placesOk packets channel laid
+unfolding benchStep benchTold benchBack benchMeans benchOk consoleOk consoleMode controllerOk controllerMode tableOk headsPass packets channel laid
     readings rules.rules isMessage cells filled letters among letter if_then_else_
 sends = refl
 
@@ -168,7 +168,7 @@ unfolding benchAt partsAt benchBytes console.consoleBytes console.consoleAt cons
 ok-reads-back = refl
 
 tells-ok : benchStep (idle-with true) reads-once clear clear ≡ told-ok
-unfolding benchStep benchTold benchBack benchMeans benchOk consoleOk consoleMode controllerOk controllerMode tableOk placesOk packets channel laid
+unfolding benchStep benchTold benchBack benchMeans benchOk consoleOk consoleMode controllerOk controllerMode tableOk headsPass packets channel laid
     readings rules.rules isMessage cells filled letters among letter if_then_else_
 tells-ok = refl
 

@@ -24,7 +24,7 @@ use Rattle.wire.proofs.PacketsFit.{Typed, packet-long}
 use Rattle.wire.proofs.Trips.{read-back}
 use Rattle.tables.specs.Table.{isTable, takenOut}
 use Rattle.tables.proofs.Places.{Placed, zeros-left, is-long, is-few, laid-append, laid-length, table-none, table-length, above, bytes-at-is, taken-out-is, holds-length, holds-table}
-use Rattle.channels.specs.Table.{laid, channel, packets, packetAt, sameWay, goes, placesOk, tableOk, added}
+use Rattle.channels.specs.Table.{laid, channel, packets, packetAt, sameWay, goes, headsPass, placesOk, tableOk, added}
 
 -- ## What a well-formed table is
 
@@ -116,7 +116,7 @@ module _ {A : Type 0} {dir : Direction} {packet : A → Packet} {bytes : A → L
   packets-length = holds-length reads
 
   laid-packets : (n : ℕ) (t : List ℕ) → Bytes t → placesOk dir n t ≡ true → laid bytes (packets reads n t) ≡ take (n * 32) t
-  unfolding laid packets placesOk
+  unfolding laid packets headsPass
   laid-packets zero t b h = refl
   laid-packets (suc n) t b h =
       let g = goes dir (packetRead (take 32 t) .head) in
@@ -135,7 +135,7 @@ module _ {A : Type 0} {dir : Direction} {packet : A → Packet} {bytes : A → L
   -- ## Good packets, and a well-formed table
 
   places-good : (n : ℕ) (t : List ℕ) → Bytes t → placesOk dir n t ≡ true → All Ok (packets reads n t)
-  unfolding packets placesOk
+  unfolding packets headsPass
   places-good zero t b h = tt
   places-good (suc n) t b h =
       let g = goes dir (packetRead (take 32 t) .head) in
@@ -150,7 +150,7 @@ module _ {A : Type 0} {dir : Direction} {packet : A → Packet} {bytes : A → L
       ap (λ (r : ReadPacket). goes dir (r .head)) (ap packetRead (code .same p) ∙ read-back (packet p) (code .typed p o) (code .fitting p o)) ∙ code .way p
 
   places-laid : (ps : List A) (z : List ℕ) → All Ok ps → placesOk dir (length ps) (laid bytes ps ++ z) ≡ true
-  unfolding laid placesOk
+  unfolding laid headsPass
   places-laid [] z h = refl
   places-laid (p ∷ ps) z h =
       let l = long p (h .0) in

@@ -20,7 +20,7 @@ use Rattle.wire.specs.Packet.{directionOf, packetRead}
 use Rattle.ground.proofs.Copies.{rest-lent}
 use Rattle.wire.proofs.Reading.{read-short}
 use Rattle.tables.specs.Table.{bytesAt}
-use Rattle.channels.specs.Table.{sameWay, goes, packetAt, placesOk, tableOk}
+use Rattle.channels.specs.Table.{sameWay, goes, packetAt, headsPass, placesOk, tableOk}
 
 -- a place of the table, and one that isn't there
 module _ (t : List ℕ) (place : ℕ) where
@@ -53,23 +53,23 @@ module _ (t : List ℕ) (place : ℕ) where
 pub head-is : (dir : Direction) (head : ReadHead) {h : Head} {d : Direction} {r : Bool} → head ≡ Is h → d ≡ directionOf h → r ≡ sameWay d dir → r ≡ goes dir head
 head-is dir head e f g = rw (e, ← f) g
 
--- a scan of the places from the i-th of n on, where what is left decides as x does: one that is right, one that isn't, and the end
-module _ (dir : Direction) (t : List ℕ) (n i : ℕ) {x : Bool} (known : x ≡ placesOk dir (n - i) (drop (i * 32) t)) where
-  place-step : i < n → placesOk dir (n - i) (drop (i * 32) t) ≡ (goes dir (packetAt t i .head) && placesOk dir (n - (i + 1)) (drop ((i + 1) * 32) t))
-  unfolding placesOk packetAt
+-- a scan of the places from the i-th of n on, where what is left decides as x does: one that passes, one that doesn't, and the end
+module _ (test : ReadHead → Bool) (t : List ℕ) (n i : ℕ) {x : Bool} (known : x ≡ headsPass test (n - i) (drop (i * 32) t)) where
+  place-step : i < n → headsPass test (n - i) (drop (i * 32) t) ≡ (test (packetAt t i .head) && headsPass test (n - (i + 1)) (drop ((i + 1) * 32) t))
+  unfolding headsPass packetAt
   place-step h =
       let e : n - i ≡ suc (n - (i + 1)) = omega (arith, h) in
       let g : (i + 1) * 32 ≡ i * 32 + 32 = omega arith in
       rw (e, g, drop-drop 32 (i * 32) t)
 
-  pub place-on : {r : ReadHead} {g : Bool} → i < n → r ≡ packetAt t i .head → g ≡ goes dir r → g ≡ true → x ≡ placesOk dir (n - (i + 1)) (drop ((i + 1) * 32) t)
+  pub place-on : {r : ReadHead} {g : Bool} → i < n → r ≡ packetAt t i .head → g ≡ test r → g ≡ true → x ≡ headsPass test (n - (i + 1)) (drop ((i + 1) * 32) t)
   place-on h e f y = known ∙ place-step h ∙ rw (← e, ← f, y)
 
-  pub place-off : {r : ReadHead} {g : Bool} → i < n → r ≡ packetAt t i .head → g ≡ goes dir r → g ≡ false → false ≡ x
+  pub place-off : {r : ReadHead} {g : Bool} → i < n → r ≡ packetAt t i .head → g ≡ test r → g ≡ false → false ≡ x
   place-off h e f y = sym (known ∙ place-step h ∙ rw (← e, ← f, y))
 
   pub place-end : n ≤ i → true ≡ x
-  unfolding placesOk
+  unfolding headsPass
   place-end h = let e : n - i ≡ 0 = omega (arith, h) in sym (known ∙ rw e)
 
 -- the test of a table

@@ -20,7 +20,7 @@ use Rattle.wire.specs.declared.Packet.{Packet}
 use Rattle.wire.specs.declared.ReadHead.the-variants.{Is}
 use Rattle.wire.specs.declared.ReadPacket.{ReadPacket}
 use Rattle.wire.proofs.Heads.{is-other}
-use Rattle.channels.specs.Table.{laid, packetAt, goes, placesOk, tableOk, withCopies, added}
+use Rattle.channels.specs.Table.{laid, packetAt, goes, headsPass, tableOk, withCopies, added}
 use Rattle.channels.proofs.change.add.Kinds as add-kinds
 use Rattle.channels.proofs.change.add.Reads as add
 use Rattle.channels.proofs.check.head_at.Kinds as head-at-kinds
@@ -86,7 +86,7 @@ a-head-beyond-the-table κs a x s e w p =
     is-other 12 (w .0) (sym (sym (w .1) ∙ p ∙ ap (λ (r : ReadPacket). r .head) (ap (packetAt (now (a .0))) (e .1) ∙ packet-at-end (now (a .0)) (e .0))))
 
 other-way : (t : List ℕ) → length t ≡ 2048 → take 32 t ≡ packetBytes (blank (Ok (record { 0 = 1 }))) → tableOk ToController 1 t ≡ false
-unfolding tableOk placesOk packetRead readRefusal headAt headOf packetBytes bytesOf value first if_then_else_ isBlank filled
+unfolding tableOk headsPass packetRead readRefusal headAt headOf packetBytes bytesOf value first if_then_else_ isBlank filled
 other-way t l h = rw (l, h)
 
 -- a table whose first packet is an OK, on its way to the controller
@@ -94,7 +94,7 @@ pub takes-the-other-direction : RulesOut table-ok-kinds.ps table-ok-kinds.r tabl
 takes-the-other-direction κs a x s e w p = true≢false (sym w ∙ p ∙ (λ i. tableOk (e .3 i) (e .2 i) (now (a .0))) ∙ other-way (now (a .0)) (e .0) (e .1))
 
 one-above : (d : Direction) → tableOk d 0 (replicate 2047 0 ++ 1 ∷ []) ≡ false
-unfolding tableOk placesOk filled
+unfolding tableOk headsPass filled
 one-above d = refl
 
 -- no packets, and a byte above that is not zero

@@ -33,10 +33,14 @@ abbrev pub goes : Direction → ReadHead → Bool
 goes dir (Refused n) = false
 goes dir (Is h) = sameWay (directionOf h) dir
 
+-- what the reader says of each of the first n places passes a test
+unfoldable pub headsPass : (ReadHead → Bool) → ℕ → List ℕ → Bool
+headsPass test zero t = true
+headsPass test (suc n) t = test (packetRead (take 32 t) .head) && headsPass test n (drop 32 t)
+
 -- the first n places hold packets of a direction
-unfoldable pub placesOk : Direction → ℕ → List ℕ → Bool
-placesOk dir zero t = true
-placesOk dir (suc n) t = goes dir (packetRead (take 32 t) .head) && placesOk dir n (drop 32 t)
+abbrev pub placesOk : Direction → ℕ → List ℕ → Bool
+placesOk dir n t = headsPass (goes dir) n t
 
 -- packets of the direction below the count, zero bytes above it
 unfoldable pub tableOk : Direction → ℕ → List ℕ → Bool

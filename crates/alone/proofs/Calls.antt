@@ -35,6 +35,7 @@ use Rattle.ends.specs.declared.ForController.{ForController}
 use Rattle.ends.specs.declared.ForController.the-variants as for-controller
 use Rattle.ends_console.specs.declared.fields.Console.{Console}
 use Rattle.ends_controller.specs.declared.fields.Controller.{Controller}
+use Rattle.alone.specs.AnyEnd.{lent}
 use Rattle.alone.specs.ConsoleAlone.{ConsoleAlone, consoleRefused, consoleTold, consoleActs, consoleTakes, consoleHears, consoleLent, consoleAsked, consoleAsks, consoleLetter, consoleAlone}
 use Rattle.alone.specs.ControllerAlone.{ControllerAlone, controllerRefused, controllerTold, controllerActs, controllerTakes, controllerHead, controllerLent, controllerAsked, controllerAsks, controllerLetter, controllerAlone}
 
@@ -75,7 +76,7 @@ module _ (R : ℕ → Type 0) (one : R 1) (two : R 2) (twelve : R 12) (fifteen :
     ConsoleDoes k = (a : rules.ConsoleAct (List ℕ)) → ConsoleActOf m packet k a → consoleOk c ≡ true → Q (consoleActs c reply a)
 
     console-lent : (x : ConsoleAlone) → Q x → Q (consoleLent c reply x)
-    unfolding consoleLent if_then_else_
+    unfolding lent if_then_else_
     console-lent x h = by-test (eqb (length reply) 32) (λ t. rw t h) (λ f. rw f (refuses 12 twelve))
 
     console-came : consoleOk c ≡ true → ConsoleDoes ConsoleAsk.to-take → (h : Head) → packetRead packet .head ≡ read-head.Is h → (f : ForConsole) → headForConsole h ≡ f → Q (consoleTakes c reply f)
@@ -115,7 +116,7 @@ module _ (R : ℕ → Type 0) (one : R 1) (two : R 2) (twelve : R 12) (fifteen :
     ControllerDoes k = (a : rules.ControllerAct (List ℕ)) → ControllerActOf packet k a → controllerOk c ≡ true → Q (controllerActs c reply a)
 
     controller-lent : (x : ControllerAlone) → Q x → Q (controllerLent c reply x)
-    unfolding controllerLent if_then_else_
+    unfolding lent if_then_else_
     controller-lent x h = by-test (eqb (length reply) 32) (λ t. rw t h) (λ f. rw f (refuses 12 twelve))
 
     controller-came : controllerOk c ≡ true → ControllerDoes ControllerAsk.to-take → (h : Head) → packetRead packet .head ≡ read-head.Is h → (f : ForController) → headForController h ≡ f → Q (controllerTakes c reply (packetRead packet .message) f)

@@ -58,6 +58,7 @@ use Rattle.ends_console.specs.declared.fields.ConsoleRead.{ConsoleRead}
 use Rattle.ends_console.specs.declared.fields.ConsoleRead.the-variants.{IllFormed, Is}
 use Rattle.alone.specs.declared.console.ConsoleOutcome.{ConsoleOutcome}
 use Rattle.alone.specs.Alone.{replied}
+use Rattle.alone.specs.AnyEnd.{lent}
 use Rattle.alone.specs.ConsoleAlone.{ConsoleAlone, consoleRefused, consoleTold, consoleActs, consoleTakes, consoleHears, consoleLent, consoleAsked, consoleAsks, consoleLetter, consoleAlone}
 use Rattle.alone.specs.ConsolePrivate.{consoleDone, consoleTells, consoleSends}
 use Rattle.alone.proofs.ConsoleOutcome.{told, done-told, absent-told}
@@ -182,11 +183,11 @@ module _ {n : ℕ} (c : Console) (e : End) (read : consoleRead c ≡ Is e) (long
 module _ (c : Console) (reply : List ℕ) where
   -- the reply buffer has another length
   pub lent-12 : {x : ConsoleOutcome} (y : ConsoleAlone) → (length reply ≡ 32 → ⊥) → x ≡ refusing 12 c → record { outcome = x; reply = reply } ≡ consoleLent c reply y
-  unfolding consoleLent if_then_else_
+  unfolding lent if_then_else_
   lent-12 y l h = (λ i. record { outcome = h i; reply = reply }) ∙ rw (ne-eqb (length reply) 32 l)
 
   lent-so : {x : ConsoleAlone} (y : ConsoleAlone) → length reply ≡ 32 → x ≡ y → x ≡ consoleLent c reply y
-  unfolding consoleLent if_then_else_
+  unfolding lent if_then_else_
   lent-so y l h = rw (eq-eqb (length reply) 32 l) h
 
   module _ {n : ℕ} (s : ForController) (up : Bool) (l : length reply ≡ 32) (refuses : n ≡ first (rules.down-4 up ∷ rules.mode-6 (forController s) ∷ [])) where

@@ -55,6 +55,7 @@ use Rattle.ends_controller.specs.declared.fields.ControllerRead.{ControllerRead
 use Rattle.ends_controller.specs.declared.fields.ControllerRead.the-variants.{IllFormed, Is}
 use Rattle.alone.specs.declared.controller.ControllerOutcome.{ControllerOutcome}
 use Rattle.alone.specs.Alone.{replied}
+use Rattle.alone.specs.AnyEnd.{lent}
 use Rattle.alone.specs.ControllerAlone.{ControllerAlone, controllerRefused, controllerTold, controllerActs, controllerTakes, controllerHead, controllerHears, controllerLent, controllerAsked, controllerAsks, controllerLetter, controllerAlone}
 use Rattle.alone.specs.ControllerPrivate.{controllerTells, controllerSends}
 use Rattle.alone.proofs.ControllerOutcome.{told, done-told}
@@ -140,11 +141,11 @@ module _ {x : ControllerOutcome} (c : Controller) (e : End) (read : controllerRe
 module _ (c : Controller) (reply : List ℕ) where
   -- the reply buffer has another length
   pub lent-12 : {x : ControllerOutcome} (y : ControllerAlone) → (length reply ≡ 32 → ⊥) → x ≡ refusing 12 c → record { outcome = x; reply = reply } ≡ controllerLent c reply y
-  unfolding controllerLent if_then_else_
+  unfolding lent if_then_else_
   lent-12 y l h = (λ i. record { outcome = h i; reply = reply }) ∙ rw (ne-eqb (length reply) 32 l)
 
   lent-so : {x : ControllerAlone} (y : ControllerAlone) → length reply ≡ 32 → x ≡ y → x ≡ controllerLent c reply y
-  unfolding controllerLent if_then_else_
+  unfolding lent if_then_else_
   lent-so y l h = rw (eq-eqb (length reply) 32 l) h
 
   module _ {n : ℕ} (s : ForConsole) (up : Bool) (l : length reply ≡ 32) (refuses : n ≡ first (rules.down-4 up ∷ rules.mode-6 (forConsole s) ∷ [])) where

@@ -31,8 +31,9 @@ use Rattle.ends.specs.declared.ForController.{ForController}
 use Rattle.ends.specs.declared.ForController.the-variants as for-controller
 use Rattle.ends_console.specs.declared.fields.Console.{Console}
 use Rattle.ends_controller.specs.declared.fields.Controller.{Controller}
-use Rattle.alone.specs.ConsoleAlone.{ConsoleAlone, consoleRefused, consoleTold, consoleActs, consoleTakes, consoleHears, consoleLent, consoleAsks, consoleLetter, consoleAlone}
-use Rattle.alone.specs.ControllerAlone.{ControllerAlone, controllerRefused, controllerTold, controllerActs, controllerTakes, controllerHead, controllerLent, controllerAsks, controllerLetter, controllerAlone}
+use Rattle.alone.specs.AnyEnd.{lent}
+use Rattle.alone.specs.ConsoleAlone.{ConsoleAlone, consoleRefused, consoleTold, consoleActs, consoleTakes, consoleHears, consoleAsks, consoleLetter, consoleAlone}
+use Rattle.alone.specs.ControllerAlone.{ControllerAlone, controllerRefused, controllerTold, controllerActs, controllerTakes, controllerHead, controllerAsks, controllerLetter, controllerAlone}
 use Rattle.alone.proofs.Calls.{consoleHeard, controllerHeardAs}
 
 no-packet : {A : Type 0} {B : Type 0} (q : A) → none ≡ some q → B
@@ -74,7 +75,7 @@ module _ {S : Type 0} (b : Bench S (List ℕ)) (place : ℕ) (m packet reply : L
     console-hears (read-head.Is h) q e = console-takes (headForConsole h) q e
 
     console-asks : (a : Asks) → Lent a → consoleAsks c reply m packet a ≡ consoleObeys (asked-to a b place m)
-    unfolding consoleActs consoleLent if_then_else_
+    unfolding consoleActs lent if_then_else_
     console-asks (the-console letters.to-put) h = rw ok
     console-asks (the-console letters.to-send-needI) h = rw (ok, h)
     console-asks (the-console letters.to-send-data) h = rw (ok, h)
@@ -117,7 +118,7 @@ module _ {S : Type 0} (b : Bench S (List ℕ)) (place : ℕ) (m packet reply : L
     controller-hears (read-head.Is h) q e = controller-takes (headForController h) q e
 
     controller-asks : (a : Asks) → Lent a → controllerAsks c reply packet a ≡ controllerObeys (asked-to a b place m)
-    unfolding controllerActs controllerLent if_then_else_
+    unfolding controllerActs lent if_then_else_
     controller-asks (the-console a) h = console-no a
       where
         console-no : (a : ConsoleAsk) → controllerRefused 1 c reply ≡ controllerObeys (asked-to (the-console a) b place m)

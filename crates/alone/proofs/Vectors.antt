@@ -26,12 +26,13 @@ use Rattle.ends.specs.declared.Report.the-variants as report
 use Rattle.ends_console.specs.declared.fields.Console.{Console}
 use Rattle.ends_controller.specs.declared.fields.Controller.{Controller}
 use Rattle.ends.specs.Packets.{zeros}
-use Rattle.alone.specs.ConsoleAlone.{ConsoleAlone, consoleActs, consoleLent, consoleAlone}
-use Rattle.alone.specs.ControllerAlone.{ControllerAlone, controllerActs, controllerLent, controllerAlone}
+use Rattle.alone.specs.AnyEnd.{lent}
+use Rattle.alone.specs.ConsoleAlone.{ConsoleAlone, consoleActs, consoleAlone}
+use Rattle.alone.specs.ControllerAlone.{ControllerAlone, controllerActs, controllerAlone}
 
 -- all that an example computes with
 unfoldable pub opened : Unit {0}
-unfolding consoleAlone consoleOk consoleMode consoleActs consoleLent console-read-step said ack-after controllerAlone controllerOk controllerMode controllerActs controllerLent rules.ends numbers-rules
+unfolding consoleAlone consoleOk consoleMode consoleActs lent console-read-step said ack-after controllerAlone controllerOk controllerMode controllerActs rules.ends numbers-rules
     packetBytes packetRead readRefusal headAt headOf value bytesOf isBlank isMessage cells filled line letters among letter
 opened = tt
 

@@ -1,29 +1,25 @@
--- A controller run alone: what it tells, and what stands in the reply buffer afterwards, refusal by refusal in document 01's order. Assumes nothing.
+-- A controller run alone: what it tells, and what stands in the reply buffer afterwards. Assumes nothing.
 use Prim.Native.Nat.{ℕ}
 use mathlib.Core.Bool.{false, not}
-use mathlib.Core.Option.{Option, none, some, Option·map}
+use mathlib.Core.Option.{Option, Option·map}
 use mathlib.Core.List.{List}
 use lib.ListN.{length}
-use lib.Dec.{eqb}
 use Rattle.ground.specs.Cell.{spaces}
-use Rattle.ground.specs.Choice.{if_then_else_}
 use Rattle.wire.specs.Packet.{packetRead}
 use Rattle.wire.specs.declared.ReadHead.{ReadHead}
-use Rattle.wire.specs.declared.ReadHead.the-variants as read-head
 use Rattle.wire.specs.declared.ReadPacket.{ReadPacket}
 use Rattle.rules.specs.Supply.{numbering, Numbers}
-use Rattle.rules.specs.Letters.{Letter, line, letter, Asks, the-console, the-controller, neither-end, ControllerAsk, to-send-offer, to-send-ok}
+use Rattle.rules.specs.Letters.{Letter, letter, Asks, ControllerAsk}
 use Rattle.rules.specs.Ends as rules
-use Rattle.rules.specs.Relabel.{in-packet}
-use Rattle.ends.specs.Packets.{toConsolePacket, headForController}
-use Rattle.ends.specs.AsRules.{toController, reportBack, delivered}
+use Rattle.ends.specs.Packets.{toConsolePacket}
+use Rattle.ends.specs.AsRules.{reportBack, delivered}
 use Rattle.ends_controller.specs.Fields.{controllerOk}
 use Rattle.ends_controller.specs.FieldsAsRules.{controllerMeans, controllerBack}
 use Rattle.ends.specs.declared.ForController.{ForController}
-use Rattle.ends.specs.declared.ForController.the-variants as for-controller
 use Rattle.ends.specs.declared.Report.the-variants as report
 use Rattle.ends_controller.specs.declared.fields.Controller.{Controller}
 use Rattle.alone.specs.Alone.{replied}
+use Rattle.alone.specs.AnyEnd.{lent, anyControllerTakes, anyControllerHead, anyControllerHears, anyControllerAsked, anyControllerAsks, anyControllerLetter}
 use Rattle.alone.specs.declared.controller.ControllerOutcome.{ControllerOutcome}
 
 pub record ControllerAlone : Type 0 where
@@ -53,43 +49,31 @@ module _ (c : Controller) (reply : List ℕ) where
   unfoldable pub controllerActs : rules.ControllerAct (List ℕ) → ControllerAlone
   controllerActs act = controllerTold (rules.controller-step numbering (controllerMeans c) act) reply
 
-  -- a packet in whose kind goes the other way is 15; the message is data's
-  abbrev pub controllerTakes : List ℕ → ForController → ControllerAlone
-  controllerTakes message for-controller.Nothing = controllerRefused 15 c reply
-  controllerTakes message (for-controller.Packet p) =
-      controllerActs (rules.ControllerAct.take (some (in-packet (λ _. message) (toController p))))
+  -- what any controller alone does, of this one
+  abbrev refuses : ℕ → ControllerAlone
+  refuses n = controllerRefused n c reply
 
-  -- 12 to 15 of the packet in
+  abbrev pub controllerTakes : List ℕ → ForController → ControllerAlone
+  controllerTakes message p = anyControllerTakes refuses controllerActs message p
+
   abbrev pub controllerHead : List ℕ → ReadHead → ControllerAlone
-  controllerHead message (read-head.Refused n) = controllerRefused n c reply
-  controllerHead message (read-head.Is h) = controllerTakes message (headForController h)
+  controllerHead message h = anyControllerHead refuses controllerActs message h
 
   abbrev pub controllerHears : ReadPacket → ControllerAlone
-  controllerHears p = controllerHead (p .message) (p .head)
+  controllerHears p = anyControllerHears refuses controllerActs p
 
-  -- 12 of the reply buffer, whose length is looked at even with nothing to send
-  unfoldable pub controllerLent : ControllerAlone → ControllerAlone
-  controllerLent asked = if eqb (length reply) 32 then asked else controllerRefused 12 c reply
+  abbrev pub controllerLent : ControllerAlone → ControllerAlone
+  controllerLent asked = lent refuses (length reply) asked
 
   module _ (packet : List ℕ) where
-    -- O K R are lent the reply buffer, R takes the packet in
     abbrev pub controllerAsked : ControllerAsk → ControllerAlone
-    controllerAsked to-send-offer = controllerLent (controllerActs rules.send-offer)
-    controllerAsked to-send-ok = controllerLent (controllerActs rules.send-ok)
-    controllerAsked ControllerAsk.to-take = controllerLent (controllerHears (packetRead packet))
-    controllerAsked ControllerAsk.to-go-down = controllerActs rules.ControllerAct.go-down
-    controllerAsked ControllerAsk.to-come-back = controllerActs rules.ControllerAct.come-back
+    controllerAsked ask = anyControllerAsked refuses controllerActs (packetRead packet) (length reply) ask
 
-    -- 1: a letter that asks the other end, or none. 2: the controller is not well formed
     abbrev pub controllerAsks : Asks → ControllerAlone
-    controllerAsks (the-console ask) = controllerRefused 1 c reply
-    controllerAsks (the-controller ask) = if controllerOk c then controllerAsked ask else controllerRefused 2 c reply
-    controllerAsks neither-end = controllerRefused 1 c reply
+    controllerAsks asks = anyControllerAsks refuses controllerActs (packetRead packet) (length reply) (controllerOk c) asks
 
-    -- 1: no action has this letter
     abbrev pub controllerLetter : Option Letter → ControllerAlone
-    controllerLetter none = controllerRefused 1 c reply
-    controllerLetter (some l) = controllerAsks (line l .asks)
+    controllerLetter l = anyControllerLetter refuses controllerActs (packetRead packet) (length reply) (controllerOk c) l
 
 unfoldable pub controllerAlone : Controller → ℕ → List ℕ → List ℕ → ControllerAlone
 controllerAlone c l packet reply = controllerLetter c reply packet (letter l)

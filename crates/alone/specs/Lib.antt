@@ -1,4 +1,5 @@
 pub mod Alone
+pub mod AnyEnd
 pub mod ConsoleAlone
 pub mod ConsolePrivate
 pub mod ControllerAlone

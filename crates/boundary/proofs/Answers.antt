@@ -35,7 +35,8 @@ use Rattle.ends_console.specs.Fields.{consoleOk}
 use Rattle.ends_console.specs.FieldsAsRules.{consoleMeans}
 use Rattle.ends_console.specs.declared.fields.Console.{Console}
 use Rattle.ends_console.proofs.FieldsAsRules.{only-its-ack}
-use Rattle.alone.specs.ConsoleAlone.{ConsoleAlone, consoleActs, consoleTakes, consoleHears, consoleLent, consoleAlone}
+use Rattle.alone.specs.AnyEnd.{lent}
+use Rattle.alone.specs.ConsoleAlone.{ConsoleAlone, consoleActs, consoleTakes, consoleHears, consoleAlone}
 use Rattle.boundary.specs.State.{flag, isRefusal, changed, marks, told}
 use Rattle.boundary.specs.Console.{consoleBytes, consoleAt, ConsoleStep, stepped, consoleStep}
 use Rattle.boundary.proofs.BenchRefusals.{console-long}
@@ -131,7 +132,7 @@ module _ (c : Console) (m packet reply : List ℕ) where
   hears-quiet (read-head.Is h) = takes-quiet (headForConsole h)
 
   alone-quiet : Quiet (consoleAlone c 0x53 m packet reply)
-  unfolding consoleAlone consoleLent line letters among letter if_then_else_
+  unfolding consoleAlone lent line letters among letter if_then_else_
   alone-quiet =
       by-test (consoleOk c)
       (λ t. rw t (by-test (eqb (length reply) 32) (λ l. rw l (hears-quiet (packetRead packet .head))) (λ l. rw l tt)))

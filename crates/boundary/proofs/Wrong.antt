@@ -25,8 +25,9 @@ use Rattle.ends_console.specs.Fields.{consoleOk, consoleMode, freshConsole, con
 use Rattle.ends_controller.specs.Fields.{controllerOk, controllerMode, freshController, downedController}
 use Rattle.ends_console.specs.declared.Mode.{Mode}
 use Rattle.ends_console.specs.declared.Mode.the-variants.{NeedI}
+use Rattle.alone.specs.AnyEnd.{lent}
 use Rattle.alone.specs.ConsoleAlone.{consoleActs, consoleAlone}
-use Rattle.alone.specs.ControllerAlone.{controllerActs, controllerLent, controllerAlone}
+use Rattle.alone.specs.ControllerAlone.{controllerActs, controllerAlone}
 use Rattle.alone.proofs.Vectors.{opened}
 use Rattle.boundary.specs.State.{marks, written}
 use Rattle.boundary.specs.Console as console
@@ -180,7 +181,7 @@ controller-changed-by-a-refusal κs a x s e w p = w .1 (ap (λ (r : List ℕ × 
 
 -- needI takes the first number of a block, what is refused takes none, and going down takes none
 need-told : (out : List ℕ) → controller.controllerStep fresh-controller 0x52 needI-1 (replicate 32 0) out .told ≡ 32
-unfolding controller.controllerBytes controller.controllerAt controller.isState controller.fieldsAt marks written bytesOf value controllerAlone controllerOk controllerMode controllerActs controllerLent rules.ends numbers-rules line letters among letter
+unfolding controller.controllerBytes controller.controllerAt controller.isState controller.fieldsAt marks written bytesOf value controllerAlone controllerOk controllerMode controllerActs lent rules.ends numbers-rules line letters among letter
 need-told out = rw needI-1-read
 
 pub controller-never-says-keep : RulesOut controller-kinds.ps controller-kinds.r controller-step.Post (λ κs a. (now (a .0) ≡ fresh-controller) × (a .1 .0 ≡ 0x52) × (now (a .1 .1 .0) ≡ needI-1) × (now (a .1 .1 .1 .0) ≡ replicate 32 0)) (λ κs a x s. keeps x ≡ false)

@@ -32,7 +32,8 @@ use Rattle.ends_controller.specs.Fields.{controllerOk}
 use Rattle.channels.specs.Table.{tableOk}
 use Rattle.bench.specs.AsRules.{benchOk, benchMeans, benchBack}
 use Rattle.bench.specs.Promise.{benchRefused, benchTold, stepOf, benchStep}
-use Rattle.bench.specs.Loaded.{loadedOf, loadedMeans, Typed}
+use Rattle.bench.specs.WithNumbers.{withNumbers}
+use Rattle.bench.specs.Loaded.{loadedOf, Typed}
 use Rattle.bench.specs.declared.Action.{Action}
 use Rattle.bench.specs.declared.Bench.{Bench}
 use Rattle.bench.proofs.BenchRead.{passes-well}
@@ -153,7 +154,7 @@ bench-step-leaves s a out back d e = rw (e, step-long s a out back e)
 -- its counts have places, so that their bytes are whole
 module _ (b : Bench) (out back : List ℕ) (typed : Typed (b .console) (b .controller)) (p : Bytes out) (q : Bytes back) where
   means-well : benchOk b out back ≡ true → Well-formed numbering isMessage (benchMeans b out back)
-  unfolding loadedOf loadedMeans benchMeans
+  unfolding loadedOf withNumbers benchMeans
   means-well t = passes-well b out back t typed p q .well-formed
 
   counts-few : (o : Option Letter) (a : Action) → isRefusal (stepOf o b a out back .outcome .report) ≡ false → (stepOf o b a out back .outcome .bench .sent ≤ 64) × (stepOf o b a out back .outcome .bench .returned ≤ 64)

@@ -1,5 +1,7 @@
 // The bench: two ends, two channels, fourteen actions. A step reads its ends into modes once (here), decides by them and moves packets (modes), with
 // the packet at the place (arriving), the numbers of both ends and the ack (loaded).
+#![tactic(auto)]
+
 mod arriving;
 mod cells;
 mod loaded;

@@ -1,4 +1,6 @@
 // The boundary to C. Every entry takes any bytes; a refusal leaves every lent buffer byte for byte.
+#![tactic(auto)]
+
 pub mod benches;
 pub mod console;
 pub mod controller;

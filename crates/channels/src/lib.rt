@@ -1,4 +1,6 @@
 // Channels: a channel is a table that holds packets of one direction, and a count.
+#![tactic(auto)]
+
 mod change;
 mod check;
 

@@ -1,6 +1,8 @@
 // The console: what runs in its box. What it does goes by its mode and the number that is next (turns, refusals, decides); a thin layer moves its numbers
 // (acts), and its fields are read into its mode and back (fields). The message that it holds stands beside, and so does its ack (ack). No function here is an entry: the crates
 // above call them, and docs/PROMISES.md lists why.
+#![tactic(auto)]
+
 pub mod ack;
 pub mod acts;
 pub mod decides;

@@ -1,6 +1,8 @@
 // The controller: what runs in its box. What it does goes by its mode and the number that is next (turns, refusals, decides); a thin layer moves its
 // numbers (acts), and its fields are read into its mode and back (fields). The message of the packet in stands beside. No function here is an entry: the
 // crates above call them, and docs/PROMISES.md lists why.
+#![tactic(auto)]
+
 pub mod acts;
 pub mod decides;
 pub mod fields;

@@ -1,5 +1,7 @@
 // The list program for a person: after each record's line the sentence of a refusal or of an answer, and how both ends and both channels stand. All
 // that it adds is indented.
+#![tactic(auto)]
+
 mod answers;
 mod refusals;
 mod standing;

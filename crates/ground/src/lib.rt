@@ -1,4 +1,6 @@
 // What a cell of a message is, what a block of numbers is, and scans of a whole slice.
+#![tactic(auto)]
+
 ghost use Rattle.std.specs.Prelude.{◌≡◌};
 ghost use Rattle.ground.specs.Block.{is_block};
 ghost use Rattle.ground.specs.Cell.{cell, cells, is_message};

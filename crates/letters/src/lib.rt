@@ -1,4 +1,6 @@
 // The fourteen letters, whom each asks what, and the fields that it uses: document 01's table, and request 2's A.
+#![tactic(auto)]
+
 ghost use Rattle.std.specs.Prelude.{◌<◌, ◌≡◌};
 ghost use Rattle.rules.specs.Letters.{letter};
 ghost use Rattle.letters.specs.Lines.{found_of, found_refusal, letter_refusal, found_at};

@@ -1,4 +1,5 @@
 // The list program: records from standard input, a line for each to standard output.
+#![tactic(auto)]
 
 // Plays the records and writes their lines.
 fn play(input: &[u8], output: &mut [u8]) {

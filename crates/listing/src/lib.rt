@@ -1,4 +1,6 @@
 // The bytes of a list program, whatever link it plays: a record of 21 bytes read, a line of 27 bytes written.
+#![tactic(auto)]
+
 mod reading;
 mod writing;
 

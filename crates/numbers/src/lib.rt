@@ -1,5 +1,7 @@
 // The numbers of an end, as plain numbers: an end wraps them as its J or its I. next, take, back, is_used and sound are each that field of the rules'
 // supply (take where there is a next one); kept and fresh start it, and after is what a step does to it. No function here is an entry: the crates above call them, and docs/PROMISES.md lists why.
+#![tactic(auto)]
+
 ghost use Rattle.std.specs.Prelude.{◌≡◌};
 ghost use Rattle.rules.specs.Supply.{numbering, grown};
 ghost use Rattle.numbers.specs.Numbers.{numbers_means, number_or0, numbers_kept, numbers_fresh, numbers_taken, numbers_back, numbers_moved};

@@ -1,4 +1,6 @@
 // Tables: a table is 64 places of 32 bytes, lent, with a count beside it. What a place holds is not looked at here.
+#![tactic(auto)]
+
 mod change;
 mod shown;
 

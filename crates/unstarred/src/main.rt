@@ -1,4 +1,6 @@
 // Document 01's unstarred bench checks, run: a line for each with the refusal's number, 0 for none.
+#![tactic(auto)]
+
 use bench::{Action, Bench};
 use ends::Report;
 use wire::{I, J, ReadHead};

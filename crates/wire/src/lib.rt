@@ -1,4 +1,6 @@
 // Packets and number records, as values and as bytes.
+#![tactic(auto)]
+
 mod frame;
 mod packets;
 mod records;

@@ -21,7 +21,7 @@ use Rattle.rules.proofs.Lists.{if_holds}
 use Rattle.rules.proofs.Judge.{Allowed}
 use Rattle.rules.proofs.Invariant.{Last, At, ready_up, ready_down, view, Up, Down, Core, Moves, NothingOn, stay}
 use Rattle.rules.proofs.ConsoleMoves.{choose, choose_ready, rest, putting, give_up}
-use Rattle.rules.proofs.ControllerMoves.{offered, assign, assign_ready, deliver, deliver_ready, clear}
+use Rattle.rules.proofs.ControllerMoves.{IsOffered, assign, assign_ready, deliver, deliver_ready, clear}
 
 -- the judge after a row, or after none
 abbrev pub judged : {M : Type 0} → Judge M → Option (Event M) → Judge M
@@ -175,7 +175,7 @@ module _ (F G : ℕ → Type 0) {M : Type 0} (w : Judge M) where
         → RGood ControllerMode.idle (turn true (in_accept j i) nothing none)
     take_need j i u f c =
         record {
-          On' = offered s on j i;
+          On' = IsOffered s on j i;
           allowed = tt;
           moves = assign F G w w.controller w.since s on j i f c u;
           ready = assign_ready F G w w.controller w.since s on j i f c;

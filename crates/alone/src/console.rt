@@ -22,7 +22,7 @@ use ends_console::{Acted, End, acts};
 use letters::{Asks, ConsoleAsk, Found};
 use wire::{Head, ReadHead};
 
-#[derive(Drop)]
+#[derive(Clone, Copy)]
 pub struct ConsoleOutcome {
     pub report: Report,
     pub sent: bool,

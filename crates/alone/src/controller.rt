@@ -21,7 +21,7 @@ use letters::{Asks, ControllerAsk, Found};
 use wire::{Head, ReadHead};
 
 // The message is the delivered one, 16 spaces with any other report.
-#[derive(Drop)]
+#[derive(Clone, Copy)]
 pub struct ControllerOutcome {
     pub report: Report,
     pub message: [u8; 16],
@@ -75,7 +75,7 @@ fn message_at(packet: &[u8]) -> [u8; 16]
     ensures { result ≡ drop 16 packet.now }
 {
     let mut m = [0; 16];
-    bytes::copy(&packet[16..32], &mut m);
+    m.copy_from_slice(&packet[16..32]);
     m
 }
 

@@ -10,7 +10,7 @@ use letters::{ConsoleAsk, ControllerAsk};
 use wire::ReadHead;
 
 // What came for either end, and data's message.
-#[derive(Drop)]
+#[derive(Clone, Copy)]
 pub struct Came {
     pub console: ForConsole,
     pub controller: ForController,

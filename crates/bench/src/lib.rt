@@ -29,7 +29,7 @@ pub use runner::run;
 use wire::{Direction, I, J};
 
 // `sent` and `returned` count the packets in the two lent tables: on their way to the controller, and to the console.
-#[derive(Drop)]
+#[derive(Clone, Copy)]
 pub struct Bench {
     pub console: Console,
     pub controller: Controller,
@@ -37,7 +37,7 @@ pub struct Bench {
     pub returned: usize,
 }
 
-#[derive(Drop)]
+#[derive(Clone, Copy)]
 pub struct Action {
     pub letter: u8,
     pub place: usize,
@@ -46,7 +46,7 @@ pub struct Action {
 }
 
 // The message is the delivered one, 16 spaces with any other report.
-#[derive(Drop)]
+#[derive(Clone, Copy)]
 pub struct Outcome {
     pub report: Report,
     pub message: [u8; 16],

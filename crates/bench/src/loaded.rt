@@ -16,7 +16,7 @@ use letters::{Asks, ConsoleAsk, ControllerAsk, Line};
 use numbers::Numbers;
 use wire::{I, J};
 
-#[derive(Drop)]
+#[derive(Clone, Copy)]
 pub struct Loaded {
     pub modes: Modes,
     pub console: Numbers,
@@ -24,7 +24,7 @@ pub struct Loaded {
     pub ack: bool,
 }
 
-#[derive(Drop)]
+#[derive(Clone, Copy)]
 pub struct Stepped {
     pub report: Report,
     pub message: [u8; 16],

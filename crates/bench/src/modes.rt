@@ -16,21 +16,21 @@ use numbers::Move;
 use wire::{I, J};
 
 // The console with the message that it holds, and the controller, without their numbers.
-#[derive(Drop)]
+#[derive(Clone, Copy)]
 pub struct ConsoleSide {
     pub mode: ends_console::Mode,
     pub up: bool,
     pub held: [u8; 16],
 }
 
-#[derive(Drop)]
+#[derive(Clone, Copy)]
 pub struct ControllerSide {
     pub mode: ends_controller::Mode,
     pub up: bool,
 }
 
 // Both, and the counts of the two tables; in this order the list program is shortest.
-#[derive(Drop)]
+#[derive(Clone, Copy)]
 pub struct Modes {
     pub sent: usize,
     pub returned: usize,
@@ -39,7 +39,7 @@ pub struct Modes {
 }
 
 // What the numbers of both ends say: the next of each, 0 for none, and whether what came bears an I that the controller never gave out.
-#[derive(Drop)]
+#[derive(Clone, Copy)]
 pub struct Offered {
     pub j: J,
     pub i: I,
@@ -47,7 +47,7 @@ pub struct Offered {
 }
 
 // What a step tells, and what it does to the numbers of either end.
-#[derive(Drop)]
+#[derive(Clone, Copy)]
 pub struct Told {
     pub report: Report,
     pub message: [u8; 16],

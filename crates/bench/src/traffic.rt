@@ -9,7 +9,7 @@ use ends::{ForConsole, ForController};
 use wire::{Head, J, Packet};
 
 // What an end sends, if it sends.
-#[derive(Drop)]
+#[derive(Clone, Copy)]
 pub struct Sent {
     pub any: bool,
     pub packet: Packet,

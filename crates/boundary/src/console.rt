@@ -20,7 +20,7 @@ fn message_at(s: &[u8]) -> [u8; 16]
     ensures { result ≡ drop 21 s.now }
 {
     let mut m = [0; 16];
-    bytes::copy(&s[21..], &mut m);
+    m.copy_from_slice(&s[21..]);
     m
 }
 

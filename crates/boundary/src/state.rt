@@ -34,7 +34,7 @@ pub(crate) fn fill(part: &mut [u8], from: &[u8])
     requires { length part.old ≡ length from.now }
     ensures { part.new ≡ from.now }
 {
-    bytes::copy(from, part);
+    part.copy_from_slice(from);
 }
 
 // Bytes 0 to 9 of a state, each number by itself: the compiler then stores it at once.
@@ -96,7 +96,7 @@ pub(crate) fn told(report: Report, sent: bool, keep: bool) -> u8
 }
 
 // What an end starts with, from its own number record; 0 and 0 beside a refusal.
-#[derive(Drop)]
+#[derive(Clone, Copy)]
 pub(crate) struct Start {
     pub refusal: u8,
     pub number: u32,

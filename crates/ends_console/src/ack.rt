@@ -8,7 +8,7 @@ use ends::Report;
 use letters::ConsoleAsk;
 
 // What an act does with it, whatever arrives.
-#[derive(Drop)]
+#[derive(Clone, Copy)]
 pub enum AckUse {
     Leaves,
     Clears,
@@ -16,7 +16,7 @@ pub enum AckUse {
 }
 
 // What is shown of a step, and the ack then.
-#[derive(Drop)]
+#[derive(Clone, Copy)]
 pub struct Shown {
     pub report: Report,
     pub ack: bool,

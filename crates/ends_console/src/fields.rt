@@ -8,7 +8,7 @@ use ends::compare::{no_i, no_j};
 use numbers::Numbers;
 use wire::{I, J};
 
-#[derive(Drop)]
+#[derive(Clone, Copy)]
 pub struct Console {
     pub numbers: Numbers,
     pub held: bool,
@@ -19,13 +19,13 @@ pub struct Console {
     pub ack: bool, // true is OK, false is lost
 }
 
-#[derive(Drop)]
+#[derive(Clone, Copy)]
 pub enum ModeRead {
     IllFormed,
     Is(Mode),
 }
 
-#[derive(Drop)]
+#[derive(Clone, Copy)]
 pub enum ConsoleRead {
     IllFormed,
     Is(End),

@@ -15,7 +15,7 @@ use numbers::{Move, Numbers};
 use wire::{I, J};
 
 // The mode, with the number that is set in it.
-#[derive(Drop)]
+#[derive(Clone, Copy)]
 pub enum Mode {
     Idle,
     NeedI(J),
@@ -23,7 +23,7 @@ pub enum Mode {
 }
 
 // What it does: what becomes of its numbers, its mode then, what it reports and sends.
-#[derive(Drop)]
+#[derive(Clone, Copy)]
 pub struct Turn {
     pub numbers: Move,
     pub mode: Mode,
@@ -32,14 +32,14 @@ pub struct Turn {
 }
 
 // A well-formed console without its message and its ack.
-#[derive(Drop)]
+#[derive(Clone, Copy)]
 pub struct End {
     pub numbers: Numbers,
     pub mode: Mode,
     pub up: bool,
 }
 
-#[derive(Drop)]
+#[derive(Clone, Copy)]
 pub struct Acted {
     pub report: Report,
     pub sent: ForController,

@@ -14,7 +14,7 @@ use numbers::Move;
 use wire::I;
 
 // The end afterwards is its mode and whether it is up; a refusal leaves both.
-#[derive(Drop)]
+#[derive(Clone, Copy)]
 pub struct Decided {
     pub report: Report,
     pub sent: ForConsole,

@@ -8,7 +8,7 @@ use ends::compare::{no_i, no_j};
 use numbers::Numbers;
 use wire::{I, J};
 
-#[derive(Drop)]
+#[derive(Clone, Copy)]
 pub struct Controller {
     pub numbers: Numbers,
     pub j: J,
@@ -17,13 +17,13 @@ pub struct Controller {
     pub up: bool,
 }
 
-#[derive(Drop)]
+#[derive(Clone, Copy)]
 pub enum ModeRead {
     IllFormed,
     Is(Mode),
 }
 
-#[derive(Drop)]
+#[derive(Clone, Copy)]
 pub enum ControllerRead {
     IllFormed,
     Is(End),

@@ -14,7 +14,7 @@ use numbers::{Move, Numbers};
 use wire::{I, J};
 
 // The mode, with the numbers that are set in it.
-#[derive(Drop)]
+#[derive(Clone, Copy)]
 pub enum Mode {
     Idle,
     Accept(J, I),
@@ -22,7 +22,7 @@ pub enum Mode {
 }
 
 // What it does: what becomes of its numbers, its mode then, what it reports and sends.
-#[derive(Drop)]
+#[derive(Clone, Copy)]
 pub struct Turn {
     pub numbers: Move,
     pub mode: Mode,
@@ -31,14 +31,14 @@ pub struct Turn {
 }
 
 // A well-formed controller.
-#[derive(Drop)]
+#[derive(Clone, Copy)]
 pub struct End {
     pub numbers: Numbers,
     pub mode: Mode,
     pub up: bool,
 }
 
-#[derive(Drop)]
+#[derive(Clone, Copy)]
 pub struct Acted {
     pub report: Report,
     pub sent: ForConsole,

@@ -6,7 +6,7 @@ ghost use Rattle.rules.specs.Letters.{letter};
 ghost use Rattle.letters.specs.Lines.{found_of, found_refusal, letter_refusal, found_at};
 
 // What the console, or the controller, can be asked to do.
-#[derive(Drop)]
+#[derive(Clone, Copy)]
 pub enum ConsoleAsk {
     Put,
     SendNeedI,
@@ -17,7 +17,7 @@ pub enum ConsoleAsk {
     TellAck,
 }
 
-#[derive(Drop)]
+#[derive(Clone, Copy)]
 pub enum ControllerAsk {
     SendOffer,
     SendOk,
@@ -27,7 +27,7 @@ pub enum ControllerAsk {
 }
 
 // Whom a letter asks, and to do what.
-#[derive(Drop)]
+#[derive(Clone, Copy)]
 pub enum Asks {
     Console(ConsoleAsk),
     Controller(ControllerAsk),
@@ -35,7 +35,7 @@ pub enum Asks {
 }
 
 // The channel that it takes a packet out of: the one to the controller, or to the console.
-#[derive(Drop)]
+#[derive(Clone, Copy)]
 pub enum Takes {
     Nothing,
     ToController,
@@ -43,7 +43,7 @@ pub enum Takes {
 }
 
 // A letter's byte, whom it asks what, what it takes, and whether it uses the place, the copies and the message.
-#[derive(Drop)]
+#[derive(Clone, Copy)]
 pub struct Line {
     pub byte: u8,
     pub asks: Asks,
@@ -53,7 +53,7 @@ pub struct Line {
     pub message: bool,
 }
 
-#[derive(Drop)]
+#[derive(Clone, Copy)]
 pub enum Found {
     Line(Line),
     Nothing,

@@ -8,7 +8,7 @@ pub use reading::{read, record_end};
 pub use writing::{two_digits, write_line};
 
 // Whether a record's letter uses the place, the copies and the message.
-#[derive(Drop)]
+#[derive(Clone, Copy)]
 pub struct Uses {
     pub place: bool,
     pub copies: bool,
@@ -16,7 +16,7 @@ pub struct Uses {
 }
 
 // The fields of a list record after its letter, and whether they are well formed; 0, 0 and 16 spaces if not. An enum can't hold an array.
-#[derive(Drop)]
+#[derive(Clone, Copy)]
 pub struct Fields {
     pub fits: bool,
     pub place: usize,

@@ -81,7 +81,7 @@ fn message_at(s: &[u8]) -> [u8; 16]
     ensures { result ≡ field s.now 4 16 }
 {
     let mut m = [0; 16];
-    bytes::copy(&s[4..20], &mut m);
+    m.copy_from_slice(&s[4..20]);
     m
 }
 

@@ -36,6 +36,6 @@ pub fn write_line(out: &mut [u8], number: usize, letter: u8, cells: [u8; 2], mes
 {
     if out.len() == 27 {
         let all = line_bytes(number, letter, cells, message);
-        bytes::copy(&all, out);
+        out.copy_from_slice(&all);
     }
 }

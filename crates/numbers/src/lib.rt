@@ -8,7 +8,7 @@ ghost use Rattle.numbers.specs.Numbers.{numbers_means, number_or0, numbers_kept,
 
 // Last used and reserved up to, 0 to 4,294,967,295 each, last used at most reserved; block, 1 to 1,024, by which reserved grows. The number record
 // holds reserved and block, so that it changes once in a block.
-#[derive(Drop)]
+#[derive(Clone, Copy)]
 pub struct Numbers {
     pub used: u32,
     pub reserved: u32,
@@ -16,7 +16,7 @@ pub struct Numbers {
 }
 
 // What a step does to an end's numbers.
-#[derive(Drop)]
+#[derive(Clone, Copy)]
 pub enum Move {
     Stay,
     Take,

@@ -3,7 +3,7 @@ ghost use Rattle.std.specs.Prelude.{◌≡◌};
 ghost use Rattle.tables.specs.Shown.{asked, show_refusal, shown, shown_at, seen, showing};
 
 // Which of the two tables: that of the way out, or that of the way back.
-#[derive(Drop)]
+#[derive(Clone, Copy)]
 pub enum Way {
     Out,
     Back,

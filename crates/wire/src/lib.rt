@@ -12,20 +12,20 @@ pub use records::{
 };
 
 // A console's request. A J is only ever compared with a J.
-#[derive(Drop)]
+#[derive(Clone, Copy)]
 pub struct J(pub u32);
 
 // An order's permission. An I is only ever compared with an I.
-#[derive(Drop)]
+#[derive(Clone, Copy)]
 pub struct I(pub u32);
 
-#[derive(Drop)]
+#[derive(Clone, Copy)]
 pub enum Direction {
     ToController,
     ToConsole,
 }
 
-#[derive(Drop)]
+#[derive(Clone, Copy)]
 pub enum Head {
     NeedI(J),
     Offer(J, I),
@@ -36,27 +36,27 @@ pub enum Head {
 }
 
 // The message is 16 cells for data and 16 zero bytes for all others.
-#[derive(Drop)]
+#[derive(Clone, Copy)]
 pub struct Packet {
     pub head: Head,
     pub message: [u8; 16],
 }
 
-#[derive(Drop)]
+#[derive(Clone, Copy)]
 pub enum ReadHead {
     Refused(u8),
     Is(Head),
 }
 
 // An enum can't hold an array, so the message stands beside the head: 16 zero bytes beside a refusal.
-#[derive(Drop)]
+#[derive(Clone, Copy)]
 pub struct ReadPacket {
     pub head: ReadHead,
     pub message: [u8; 16],
 }
 
 // An end's number record: of version 1 with last used, of version 2 with reserved and block. A number is 0 where none was used yet.
-#[derive(Drop)]
+#[derive(Clone, Copy)]
 pub enum NumberRecord {
     ConsoleOld(J),
     ControllerOld(I),
@@ -64,7 +64,7 @@ pub enum NumberRecord {
     Controller(I, u16),
 }
 
-#[derive(Drop)]
+#[derive(Clone, Copy)]
 pub enum ReadRecord {
     Refused(u8),
     Is(NumberRecord),

@@ -22,7 +22,7 @@ pub fn direction_of(head: Head) -> Direction
 }
 
 // What bytes 5 and 8 to 15 say of a head.
-#[derive(Drop)]
+#[derive(Clone, Copy)]
 pub struct Fields {
     pub kind: u8,
     pub first: u32,
@@ -128,7 +128,7 @@ fn message_at(s: &[u8]) -> [u8; 16]
     ensures { result ≡ drop 16 s.now }
 {
     let mut m = [0; 16];
-    bytes::copy(&s[16..32], &mut m);
+    m.copy_from_slice(&s[16..32]);
     m
 }
 
@@ -217,8 +217,8 @@ fn put_packet(out: &mut [u8], p: Packet)
     let h = p.head;
     let m = p.message;
     let head = head_bytes(h);
-    bytes::copy(&head, out);
-    bytes::copy(&m, &mut out[16..]);
+    out[..16].copy_from_slice(&head);
+    out[16..].copy_from_slice(&m);
 }
 
 pub fn write_packet(out: &mut [u8], p: Packet) -> u8

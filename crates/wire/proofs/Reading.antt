@@ -1,10 +1,10 @@
 -- What is read, from the answers of the calls that read it: laws that the code's proofs cite.
 use Prim.Native.Nat.{ℕ, ◌-◌}
 use mathlib.Core.Path.{◌≡◌, refl, sym, ap, ◌∙◌}
-use mathlib.Core.List.{List, [], ◌∷◌, ◌++◌}
+use mathlib.Core.List.{List, [], ◌∷◌}
 use mathlib.Core.Bool.{Bool, true, false, not}
 use borrow.Author.Tests.{ne_eqb, eq-eqb}
-use lib.ListN.{length, get_or, take, drop, length-drop}
+use lib.ListN.{length, get_or, take, drop}
 use Rattle.ground.specs.Choice.{if◌then◌else◌}
 use Rattle.ground.specs.First.{first}
 use Rattle.ground.proofs.First.{first_applies, first_passes, first_kept, first_more}
@@ -15,7 +15,7 @@ use Rattle.wire.specs.declared.ReadPacket.{ReadPacket}
 use Rattle.wire.specs.Frame.{field, frame_refusals, read_refusals}
 use Rattle.wire.specs.Number.{value}
 use Rattle.wire.specs.Packet.{head_of, head_at, carries, read_refusal, refused, packet_read}
-use Rattle.ground.proofs.Copies.{copied, rest_lent}
+use Rattle.ground.proofs.Copies.{rest_lent}
 use Rattle.wire.proofs.Outcomes.{packet_read_lem, refused_read, head_unrefused, head_refused, unrefused_long}
 
 -- the first refusal of a read: of the length, of bytes 0 to 7, and of the other fields
@@ -34,10 +34,8 @@ unfolding head_at
 head_at_is s e f g = rw (← e, ← f) g
 
 -- the message, copied from the part that is lent
-pub message_copied : (s d : List ℕ) {x : List ℕ} → length s ≡ 32 → length d ≡ 16 → x ≡ take (length (take 16 (drop 16 s))) (take 16 (drop 16 s)) ++ drop (length (take 16 (drop 16 s))) d → x ≡ drop 16 s
-message_copied s d l m e =
-    let r : take 16 (drop 16 s) ≡ drop 16 s = sym (ap (λ (n : ℕ). take (n - 16) (drop 16 s)) l) ∙ rest_lent s 16 in
-    copied (drop 16 s) d (rw r at e) (m ∙ rw (length-drop 16 s, l))
+pub message_copied : (s : List ℕ) {x : List ℕ} → length s ≡ 32 → x ≡ take 16 (drop 16 s) → x ≡ drop 16 s
+message_copied s l e = e ∙ sym (ap (λ (n : ℕ). take (n - 16) (drop 16 s)) l) ∙ rest_lent s 16
 
 module _ (s : List ℕ) where
   pub read_short : (length s ≡ 32 → ⊥) → packet_read s ≡ refused 12

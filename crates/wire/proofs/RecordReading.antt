@@ -2,7 +2,7 @@
 use Prim.Native.Nat.{ℕ}
 use mathlib.Core.Path.{◌≡◌, refl, sym, ap, ◌∙◌}
 use mathlib.Core.List.{List, [], ◌∷◌}
-use mathlib.Core.Bool.{Bool, true, false, not, ◌&&◌, and_true, and-false, true≢false}
+use mathlib.Core.Bool.{Bool, true, false, not, ◌&&◌, and-true, and-false, true≢false}
 use native.Mathlib.Omega.{arith}
 use borrow.Author.Tests.{eq-eqb, ne_eqb}
 use lib.ListN.{length, get_or}
@@ -90,7 +90,7 @@ regroup : (r v a b : Bool) → (r && v && (a && (b && true))) ≡ (r && (v && a 
 regroup false v a b = refl
 regroup true false a b = refl
 regroup true true false b = refl
-regroup true true true b = and_true b
+regroup true true true b = and-true b
 
 -- 16 bytes
 module _ (s : List ℕ) {n : ℕ} (l : length s ≡ 16) (e : n ≡ first (frame_refusals 0x4E 2 s)) where
@@ -112,7 +112,7 @@ module _ (s : List ℕ) {n : ℕ} (l : length s ≡ 16) (e : n ≡ first (frame_
     new_15 t = refused_so s (tested ∙ rw (t, and-false)) (λ y. unequal y refl)
 
     pub new_taken : {k : ℕ} {x : ReadRecord} → (v && eqb (get_or s 14 0) 0 && eqb (get_or s 15 0) 0) ≡ true → k ≡ value (field s 8 4) → x ≡ record_of (get_or s 5 0) k b → x ≡ record_read s
-    new_taken t h i = record_is s h block i ∙ fields_so s (tested ∙ rw (t, and_true))
+    new_taken t h i = record_is s h block i ∙ fields_so s (tested ∙ rw (t, and-true))
 
 pub ruleset old_reads = (old_frame, old_taken)
 

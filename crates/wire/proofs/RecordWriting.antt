@@ -5,11 +5,10 @@ use mathlib.Core.List.{List, [], ◌∷◌, ◌++◌}
 use mathlib.Core.Bool.{Bool, true, false}
 use borrow.Author.Rules.{rules}
 use borrow.Author.Tests.{ne_eqb, eq-eqb, eqb-true}
-use lib.ListN.{length, take, drop}
+use lib.ListN.{length}
 use lib.Dec.{eqb}
 use Rattle.ground.specs.Choice.{if◌then◌else◌}
 use Rattle.ground.specs.First.{first}
-use Rattle.ground.proofs.Copies.{copied}
 use Rattle.ground.proofs.Elements.{elements, rest_elements}
 use Rattle.ground.proofs.First.{none_wanting}
 use Rattle.ground.proofs.Promise.{unequal}
@@ -65,10 +64,10 @@ module _ (out : List ℕ) (r : NumberRecord) where
     pub old_written_12 : o ≡ true → (length out ≡ 12 → ⊥) → out ≡ record_written out r
     old_written_12 t h = record_kept_lem (old_refused_12 t h) (λ z. unequal z refl)
 
-    pub old_written_0 : {k n : ℕ} {all x : List ℕ} → o ≡ true → length out ≡ 12 → k ≡ end_of r → n ≡ number_of r → all ≡ old_bytes k n → x ≡ take (length all) all ++ drop (length all) out → length all ≡ 12 → x ≡ record_written out r
+    pub old_written_0 : {k n : ℕ} {all x : List ℕ} → o ≡ true → length out ≡ 12 → k ≡ end_of r → n ≡ number_of r → all ≡ old_bytes k n → x ≡ all → x ≡ record_written out r
     unfolding record_bytes if◌then◌else◌
-    old_written_0 {all = all} t l f g h c m =
-        copied all out c (l ∙ sym m) ∙ h ∙ sym (record_put_lem (sym (old_refused_0 t l)) ∙ rw (← e, t, ← f, ← g))
+    old_written_0 t l f g h c =
+        c ∙ h ∙ sym (record_put_lem (sym (old_refused_0 t l)) ∙ rw (← e, t, ← f, ← g))
 
     -- version 2: of a wrong length, with a block that is none, and written
     pub new_refused_12 : o ≡ false → (length out ≡ 16 → ⊥) → 12 ≡ record_write_refusal (length out) r
@@ -90,10 +89,10 @@ module _ (out : List ℕ) (r : NumberRecord) where
       pub new_written_15 : v ≡ false → out ≡ record_written out r
       new_written_15 t = record_kept_lem (new_refused_15 t) (λ z. unequal z refl)
 
-      pub new_written_0 : {k n : ℕ} {all x : List ℕ} → v ≡ true → k ≡ end_of r → n ≡ number_of r → all ≡ new_bytes k n b → x ≡ take (length all) all ++ drop (length all) out → length all ≡ 16 → x ≡ record_written out r
+      pub new_written_0 : {k n : ℕ} {all x : List ℕ} → v ≡ true → k ≡ end_of r → n ≡ number_of r → all ≡ new_bytes k n b → x ≡ all → x ≡ record_written out r
       unfolding record_bytes if◌then◌else◌
-      new_written_0 {all = all} t i j a c m =
-          copied all out c (l ∙ sym m) ∙ a ∙ sym (record_put_lem (sym (new_refused_0 t)) ∙ rw (← e, f, ← i, ← j, ← g))
+      new_written_0 t i j a c =
+          c ∙ a ∙ sym (record_put_lem (sym (new_refused_0 t)) ∙ rw (← e, f, ← i, ← j, ← g))
 
 pub ruleset record_write_refusals = (old_refused_12, old_refused_0, new_refused_12, new_refused_15, new_refused_0)
 

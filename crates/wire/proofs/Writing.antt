@@ -1,13 +1,14 @@
 -- What is written, from the answers of the calls that write it.
-use Prim.Native.Nat.{ℕ, ◌-◌, ◌≤◌}
+use Prim.Native.Nat.{ℕ, ◌-◌}
 use mathlib.Core.Path.{◌≡◌, refl, sym, ap, ◌∙◌}
 use mathlib.Core.List.{List, [], ◌∷◌, ◌++◌, append-nil, append_assoc}
 use mathlib.Core.Bool.{Bool, true, false}
 use native.Mathlib.Nat.{le_refl}
 use native.Mathlib.Omega.{arith}
 use borrow.Author.Tests.{ne_eqb, eqb-true}
-use lib.ListN.{length, take, drop, drop_of_length-le, length-drop}
-use lib.Seq.{take-length, take_at, drop_at}
+use borrow.Rule.Slice.PartMut.{put_mid}
+use lib.ListN.{length, drop, drop_of_length-le, length-drop, length-append}
+use lib.Seq.{take_at}
 use lib.Dec.{eqb}
 use Rattle.ground.specs.Choice.{if◌then◌else◌}
 use Rattle.ground.specs.First.{first}
@@ -18,7 +19,6 @@ use Rattle.wire.specs.Frame.{frame}
 use Rattle.wire.specs.Number.{bytes_of}
 use Rattle.wire.specs.Packet.{kind_of, first_of, second_of, numbered, table, fits, packet_bytes, write_refusal, packet_written}
 use Rattle.ground.proofs.Elements.{elements, rest_elements}
-use Rattle.ground.proofs.Copies.{copied, rest_lent}
 
 pub fits_numbered : (p : Packet) {n r : Bool} → n ≡ numbered p.head → n ≡ true → r ≡ (table p.head).message p.message → r ≡ fits p
 unfolding fits
@@ -34,30 +34,16 @@ head_bytes_are h {k} {u = u} {v = v} e f g i j l m =
     let laid : (0x48 ∷ 0x53 ∷ 0x4C ∷ 0 ∷ 1 ∷ k ∷ 0 ∷ 0 ∷ elements u 0 4) ++ elements v 0 4 ≡ frame 0x4C 1 k ++ (u ++ v) = unfold bytes_of in λ n. frame 0x4C 1 k ++ (rest_elements 4 u 0 l n ++ rest_elements 4 v 0 m n) in
     laid ∙ rw (i, j, e, f, g)
 
--- 32 bytes after the head's 16 are copied over the first of them
-module _ (hd out : List ℕ) {x : List ℕ} (l : length hd ≡ 16) (k : length out ≡ 32) (c : x ≡ take (length hd) hd ++ drop (length hd) out) where
-  front : x ≡ hd ++ drop 16 out
-  front = c ∙ rw (take-length hd, l)
-
-  lent : take (length x - 16) (drop 16 x) ≡ drop 16 out
-  lent = rest_lent x 16 ∙ rw front (drop_at hd (drop 16 out) 16 l)
-
-  rest_long : length (drop 16 out) ≡ 16
-  rest_long = length-drop 16 out ∙ rw k
-
-  pub message_room : (m : List ℕ) → length m ≡ 16 → length m ≤ length (take (length x - 16) (drop 16 x))
-  message_room m e = rw (lent, rest_long, e) (omega arith)
-
-  pub packet_put : (p : Packet) {y : List ℕ} → hd ≡ frame 0x4C 1 (kind_of p.head) ++ (bytes_of 4 (first_of p.head) ++ bytes_of 4 (second_of p.head)) → length p.message ≡ 16 → y ≡ take (length p.message) p.message ++ drop (length p.message) (take (length x - 16) (drop 16 x)) → take 16 x ++ (y ++ drop (length x - 16) (drop 16 x)) ≡ packet_bytes p
-  unfolding packet_bytes
-  packet_put p {y} h e f =
-      let a : take 16 x ≡ hd = rw front (take_at hd (drop 16 out) 16 l) in
-      let b : y ≡ p.message = copied p.message (take (length x - 16) (drop 16 x)) f (ap length lent ∙ rest_long ∙ sym e) in
-      let d : drop (length x - 16) (drop 16 x) ≡ [] = drop_of_length-le (drop 16 x) {i = length x - 16} (rw (length-drop 16 x) (le_refl (length x - 16))) in
-      let f₁ = bytes_of 4 (first_of p.head) in
-      let f₂ = bytes_of 4 (second_of p.head) in
-      let k = frame 0x4C 1 (kind_of p.head) in
-      rw (a, b, d, append-nil, h) (append_assoc k (f₁ ++ f₂) p.message ∙ ap (λ (r : List ℕ). k ++ r) (append_assoc f₁ f₂ p.message))
+-- the head over the first 16 of 32 bytes, the message over those after them
+pub packet_put : (p : Packet) (out : List ℕ) {x y : List ℕ} → x ≡ frame 0x4C 1 (kind_of p.head) ++ (bytes_of 4 (first_of p.head) ++ bytes_of 4 (second_of p.head)) → y ≡ p.message → length x ≡ 16 → length out ≡ 32 → put_mid 16 (length (x ++ drop 16 out) - 16) (x ++ drop 16 out) y ≡ packet_bytes p
+unfolding packet_bytes
+packet_put p out {x} {y} h e l k =
+    let whole : length (x ++ drop 16 out) ≡ 32 = rw (length-append x (drop 16 out), l, length-drop 16 out, k) in
+    let rest : drop (length (x ++ drop 16 out) - 16) (drop 16 (x ++ drop 16 out)) ≡ [] = drop_of_length-le (drop 16 (x ++ drop 16 out)) {i = length (x ++ drop 16 out) - 16} (rw (length-drop 16 (x ++ drop 16 out)) (le_refl (length (x ++ drop 16 out) - 16))) in
+    let f₁ = bytes_of 4 (first_of p.head) in
+    let f₂ = bytes_of 4 (second_of p.head) in
+    let k₁ = frame 0x4C 1 (kind_of p.head) in
+    rw (take_at x (drop 16 out) 16 l, rest, append-nil, h, e) (append_assoc k₁ (f₁ ++ f₂) p.message ∙ ap (λ (r : List ℕ). k₁ ++ r) (append_assoc f₁ f₂ p.message))
 
 -- a packet can be written to 32 bytes exactly where it fits
 pub writable : (p : Packet) → fits p ≡ true → write_refusal 32 p ≡ 0

@@ -1,14 +1,12 @@
 -- `wire::records::renewed` meets its contract: a law for each arm.
 use Prim.Native.Nat.{ℕ}
 use mathlib.Core.Path.{◌≡◌}
-use borrow.Author.Rules.{rules}
 use Rattle.wire.specs.Record.{renewed}
 use Rattle.wire.specs.declared.I.{I}
 use Rattle.wire.specs.declared.J.{J}
 use Rattle.wire.specs.declared.NumberRecord.{NumberRecord}
 use Rattle.wire.specs.declared.NumberRecord.TheVariants.{ConsoleOld, ControllerOld, Console, Controller}
-use Rattle.wire.proofs.records.renewed.Statement.{statement}
-use Rattle.wire.proofs.records.renewed.Tie as tie
+use Rattle.wire.proofs.records.renewed.Goals as goal
 
 module _ (r : NumberRecord) where
   console_renews : {j : J} → r ≡ ConsoleOld j → Console j 64 ≡ renewed r
@@ -23,15 +21,18 @@ module _ (r : NumberRecord) where
   controller_stays : {i : I} {b : ℕ} → r ≡ Controller i b → Controller i b ≡ renewed r
   controller_stays e = rw e
 
-pub renewed_spec : {M : Type 1} → statement M
-renewed_spec =
-    tie.close
-    (tie.spec
-    (λ c. search rules)
-    (λ c. search rules)
-    (λ c. search rules)
-    (λ c. search rules)
-    (λ c. search console_renews)
-    (λ c. search controller_renews)
-    (λ c. search console_stays)
-    (λ c. search controller_stays))
+pub returns-in-ConsoleOld : goal.returns-in-ConsoleOld
+returns-in-ConsoleOld c =
+    search console_renews
+
+pub returns-in-ControllerOld : goal.returns-in-ControllerOld
+returns-in-ControllerOld c =
+    search controller_renews
+
+pub returns-in-Console : goal.returns-in-Console
+returns-in-Console c =
+    search console_stays
+
+pub returns-in-Controller : goal.returns-in-Controller
+returns-in-Controller c =
+    search controller_stays

@@ -1,14 +1,12 @@
 -- `wire::records::aged` meets its contract: a law for each arm.
 use Prim.Native.Nat.{ℕ}
 use mathlib.Core.Path.{◌≡◌}
-use borrow.Author.Rules.{rules}
 use Rattle.wire.specs.Record.{aged}
 use Rattle.wire.specs.declared.I.{I}
 use Rattle.wire.specs.declared.J.{J}
 use Rattle.wire.specs.declared.NumberRecord.{NumberRecord}
 use Rattle.wire.specs.declared.NumberRecord.TheVariants.{ConsoleOld, ControllerOld, Console, Controller}
-use Rattle.wire.proofs.records.aged.Statement.{statement}
-use Rattle.wire.proofs.records.aged.Tie as tie
+use Rattle.wire.proofs.records.aged.Goals as goal
 
 module _ (r : NumberRecord) where
   console_stays : {j : J} → r ≡ ConsoleOld j → ConsoleOld j ≡ aged r
@@ -23,15 +21,18 @@ module _ (r : NumberRecord) where
   controller_ages : {i : I} {b : ℕ} → r ≡ Controller i b → ControllerOld i ≡ aged r
   controller_ages e = rw e
 
-pub aged_spec : {M : Type 1} → statement M
-aged_spec =
-    tie.close
-    (tie.spec
-    (λ c. search rules)
-    (λ c. search rules)
-    (λ c. search rules)
-    (λ c. search rules)
-    (λ c. search console_stays)
-    (λ c. search controller_stays)
-    (λ c. search console_ages)
-    (λ c. search controller_ages))
+pub returns-in-ConsoleOld : goal.returns-in-ConsoleOld
+returns-in-ConsoleOld c =
+    search console_stays
+
+pub returns-in-ControllerOld : goal.returns-in-ControllerOld
+returns-in-ControllerOld c =
+    search controller_stays
+
+pub returns-in-Console : goal.returns-in-Console
+returns-in-Console c =
+    search console_ages
+
+pub returns-in-Controller : goal.returns-in-Controller
+returns-in-Controller c =
+    search controller_ages

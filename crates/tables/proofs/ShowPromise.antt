@@ -1,4 +1,4 @@
--- What `show` promises, read by hand: of a contract whose answer holds a reference the borrow checker makes no reading.
+-- What `show` promises, read by hand.
 use mathlib.Core.Path.{◌≡◌, refl, ap, sym, ◌∙◌}
 use mathlib.Core.List.{[]}
 use seplogic.Ra.Ura.{Ura}

@@ -76,7 +76,7 @@ fn shown_part<'a>(
     }
 }
 
-// The number, 0 where the place is shown, with the part: on a refusal an empty one. Proved by hand, since a struct holds the part.
+// The number, 0 where the place is shown, with the part: on a refusal an empty one.
 pub fn show<'a>(
     way: Way,
     place: usize,

@@ -1,7 +1,7 @@
 -- What the code tests of each field, and the definitions' tests.
-use Prim.Native.Nat.{ℕ, ◌+◌, ◌*◌, ◌-◌, ◌≤◌}
+use Prim.Native.Nat.{ℕ, ◌+◌, ◌*◌, ◌≤◌}
 use mathlib.Core.Path.{◌≡◌, refl, sym, ◌∙◌}
-use mathlib.Core.Bool.{Bool, true, false, ◌&&◌, and_true, and-false, true≢false}
+use mathlib.Core.Bool.{Bool, true, false, ◌&&◌, and-true, and-false, true≢false}
 use mathlib.Core.List.{List}
 use native.Mathlib.Omega.{arith}
 use borrow.Author.Tests.{eqb-true, le-leb, lt-leb, leb-true, leb-false}
@@ -43,7 +43,7 @@ zeros t o =
 
 pub place_used : (u : Bool) (t o : ℕ) {a b : Bool} {x y : ℕ} → u ≡ true → a ≡ digit t → b ≡ digit o → x ≡ t → y ≡ o → ((a && b) && leb (10 * x + y) 591) ≡ place_fits u t o
 unfolding place_fits
-place_used u t o e f g h k = rw (e, f, g, h, k, and_true) (place t o)
+place_used u t o e f g h k = rw (e, f, g, h, k, and-true) (place t o)
 
 pub place_unused : (u : Bool) (t o : ℕ) → u ≡ false → (eqb t 0x30 && eqb o 0x30) ≡ place_fits u t o
 unfolding place_fits
@@ -57,7 +57,7 @@ zero b = by_test (eqb b 0x30) (λ e. rw (eqb-true b 0x30 e)) (λ e. rw (e, and-f
 
 pub copies_used : (u : Bool) (b : ℕ) → u ≡ true → (leb 0x30 b && leb b 0x33) ≡ copies_fit u b
 unfolding copies_fit is_copies
-copies_used u b e = rw (e, and_true)
+copies_used u b e = rw (e, and-true)
 
 pub copies_unused : (u : Bool) (b : ℕ) → u ≡ false → eqb b 0x30 ≡ copies_fit u b
 unfolding copies_fit
@@ -67,7 +67,7 @@ copies_unused u b e = rw e (zero b)
 
 pub message_used : (u : Bool) (m : List ℕ) {r : Bool} → u ≡ true → r ≡ is_message m → r ≡ message_fits u m
 unfolding message_fits
-message_used u m e f = rw (e, and_true) f
+message_used u m e f = rw (e, and-true) f
 
 -- spaces are cells
 spaces_message : (m : List ℕ) → length m ≡ 16 → filled 0x20 m ≡ true → is_message m ≡ true
@@ -94,7 +94,7 @@ module _ (u : Uses) (s : List ℕ) {a b : Bool} (p : a ≡ place_fits u.place (g
   fields_message t at f =
       let e = and_right (a && b) (eqb (get_or s 20 0) 0x0A) t in
       let d = and_left (a && b) (eqb (get_or s 20 0) 0x0A) t in
-      rw (← p, and_left a b d, ← k, and_right a b d, ← at, ← f, e, and_true)
+      rw (← p, and_left a b d, ← k, and_right a b d, ← at, ← f, e, and-true)
 
   pub fields_fail : ((a && b) && eqb (get_or s 20 0) 0x0A) ≡ false → false ≡ fields_fit u s
   unfolding fields_fit

@@ -1,12 +1,11 @@
 -- What is written, from the answers of the calls that write it.
 use Prim.Native.Nat.{ℕ, ◌+◌, ◌/◌, ◌%◌}
-use mathlib.Core.Path.{◌≡◌, sym, ◌∙◌}
+use mathlib.Core.Path.{◌≡◌, ◌∙◌}
 use mathlib.Core.List.{List, [], ◌∷◌, ◌++◌}
 use native.Mathlib.Omega.{arith}
 use borrow.Author.Tests.{eq-eqb, ne_eqb}
-use lib.ListN.{length, take, drop}
+use lib.ListN.{length}
 use Rattle.ground.specs.Choice.{if◌then◌else◌}
-use Rattle.ground.proofs.Copies.{copied}
 use Rattle.ground.proofs.Elements.{elements, rest_elements}
 use Rattle.listing.specs.Line.{decimals, line_bytes, line_written}
 
@@ -30,9 +29,9 @@ line_bytes_are number letter c m {n} f i j k =
 
 -- a write: to 27 bytes, and to another length
 module _ (out : List ℕ) (number letter : ℕ) (c m : List ℕ) where
-  pub line_written_lem : {all x : List ℕ} → length out ≡ 27 → all ≡ line_bytes number letter c m → x ≡ take (length all) all ++ drop (length all) out → length all ≡ 27 → x ≡ line_written out number letter c m
+  pub line_written_lem : {all x : List ℕ} → length out ≡ 27 → all ≡ line_bytes number letter c m → x ≡ all → x ≡ line_written out number letter c m
   unfolding line_written if◌then◌else◌
-  line_written_lem {all} l b h k = rw (eq-eqb (length out) 27 l) (copied all out h (l ∙ sym k) ∙ b)
+  line_written_lem l b h = rw (eq-eqb (length out) 27 l) (h ∙ b)
 
   pub line_kept : (length out ≡ 27 → ⊥) → out ≡ line_written out number letter c m
   unfolding line_written if◌then◌else◌

@@ -2,15 +2,12 @@
 use Prim.Native.Nat.{ℕ, ◌≤◌}
 use mathlib.Core.Path.{◌≡◌, sym, ◌∙◌}
 use mathlib.Core.Bool.{Bool, true, false}
-use mathlib.Core.List.{List, ◌++◌}
-use native.Mathlib.Omega.{arith}
+use mathlib.Core.List.{List}
 use borrow.Author.Tests.{ne_eqb, eq-eqb, leb-true}
-use lib.ListN.{length, get_or, take, drop, length-drop}
-use lib.Seq.{length-take-le}
+use lib.ListN.{length, get_or}
 use lib.Dec.{leb}
 use Rattle.ground.specs.Bytes.{field}
 use Rattle.ground.specs.Choice.{if◌then◌else◌}
-use Rattle.ground.proofs.Copies.{copied}
 use Rattle.ground.proofs.Tests.{and_left, and_right}
 use Rattle.listing.specs.declared.Fields.{Fields}
 use Rattle.listing.specs.declared.Uses.{Uses}
@@ -54,10 +51,6 @@ module _ (u : Uses) (s : List ℕ) {r : Bool} (e : r ≡ fields_fit u s) (t : r 
   pub read_fits : {p k : ℕ} {m : List ℕ} → length s ≡ 21 → p ≡ place_of (get_or s 1 0) (get_or s 2 0) → k ≡ copies_of (get_or s 3 0) → m ≡ field s 4 16 → record { fits = true; place = p; copies = k; message = m } ≡ list_record u s
   unfolding list_record is_well_formed fields if◌then◌else◌
   read_fits l f g h = rw (eq-eqb (length s) 21 l, all, f, g, h)
-
--- the message, copied over all of an array
-pub message_copied : (s d : List ℕ) {x : List ℕ} → length s ≡ 21 → length d ≡ 16 → x ≡ take (length (field s 4 16)) (field s 4 16) ++ drop (length (field s 4 16)) d → x ≡ field s 4 16
-message_copied s d l m e = copied (field s 4 16) d e (m ∙ sym (length-take-le 16 (drop 4 s) (rw (length-drop 4 s, l) (omega arith))))
 
 -- ## A record that is not well formed: its length, or its fields
 

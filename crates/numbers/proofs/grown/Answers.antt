@@ -1,0 +1,13 @@
+-- `numbers::grown` meets its contract: a law for each `return`.
+use borrow.Author.Rules.{rules}
+use Rattle.numbers.proofs.Counting.{counting}
+use Rattle.numbers.proofs.grown.Goals as goal
+
+pub returns-then-n : goal.returns-then-n
+returns-then-n c = search counting
+
+pub returns-then-n-block : goal.returns-then-n-block
+returns-then-n-block c = search (counting, rules)
+
+pub returns : goal.returns
+returns c = search (counting, rules)

@@ -47,7 +47,7 @@ module _ (c : Console) (long : length c.message ≡ 16) (m reply : List ℕ) whe
   console_acted_lem : (a : rules.ConsoleAct (List ℕ)) → console_ok c ≡ true → (n : ℕ) → (console_alone_acts c reply a).outcome.report ≡ report.Refused n → console_alone_acts c reply a ≡ console_refused n c reply
   unfolding console_alone_acts console_read_step
   console_acted_lem a ok n e =
-      let d = rules.console-step numbering is_message (console_means c) a in
+      let d = rules.console_step numbering is_message (console_means c) a in
       let r = refused_below (use_of a) c.ack d.report n e in
       let s = console_refused_same numbering is_message (console_means c) a n r in
       console_told_lem (use_of a) d n r s.0 s.1 (console.unchanged c long ok)
@@ -69,7 +69,7 @@ module _ (c : Controller) (reply : List ℕ) where
   controller_acted_lem : (a : rules.ControllerAct (List ℕ)) → controller_ok c ≡ true → (n : ℕ) → (controller_alone_acts c reply a).outcome.report ≡ report.Refused n → controller_alone_acts c reply a ≡ controller_refused n c reply
   unfolding controller_alone_acts
   controller_acted_lem a ok n e =
-      let d = rules.controller-step numbering (controller_means c) a in
+      let d = rules.controller_step numbering (controller_means c) a in
       let r = refused_in_rules d.report n e in
       let s = controller_refused_same numbering (controller_means c) a n r in
       controller_told_lem d n r s.0 s.1 (controller.unchanged c ok)

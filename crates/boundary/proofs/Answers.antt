@@ -56,7 +56,7 @@ says ack = report_back {M = List ℕ} (ack_says ack)
 
 alone_reads : (c : Console) → length c.message ≡ 16 → console_ok c ≡ true → (m packet reply : List ℕ) → is_refusal (console_alone c 0x41 m packet reply).outcome.report ≡ false
     → console_alone c 0x41 m packet reply ≡ record { outcome = record { report = says c.ack; sent = false; console = read_of c }; reply = reply }
-unfolding console_alone console_alone_acts console_read_step said ack_after rules.console-step rules.console_acts rules.console_turn rules.end_after rules.numbers_after rules.up_after rules.absent line letters among letter if◌then◌else◌
+unfolding console_alone console_alone_acts console_read_step said ack_after rules.console_step rules.console_acts rules.console_turn rules.end_after rules.numbers_after rules.up_after rules.absent line letters among letter if◌then◌else◌
 alone_reads c long ok m packet reply e =
     by_test (eqb (refusal (rules.console_rules numbering is_message (console_means c) rules.tell_ack)) 0)
     (λ z. rw (ok, z) (λ i. record { outcome = record { report = says c.ack; sent = false; console = only_its_ack c false long ok i }; reply = reply }))
@@ -124,7 +124,7 @@ module _ (c : Console) (m packet reply : List ℕ) where
   takes_quiet : (p : ForConsole) → Quiet (console_alone_takes c reply p)
   unfolding console_alone_acts console_read_step
   takes_quiet for-console.Nothing = tt
-  takes_quiet (for-console.Packet p) = stored c.ack (rules.console-step numbering is_message (console_means c) (rules.ConsoleAct.take (some (to_console p)))).report
+  takes_quiet (for-console.Packet p) = stored c.ack (rules.console_step numbering is_message (console_means c) (rules.ConsoleAct.take (some (to_console p)))).report
 
   hears_quiet : (h : ReadHead) → Quiet (console_hears c reply h)
   hears_quiet (read_head.Refused n) = tt

@@ -63,11 +63,11 @@ no_need_i κs a x s e w p = let q : for-controller.Nothing ≡ for-controller.Pa
 
 pub data_in_need_i : RulesOut data-sent-kinds.ps data-sent-kinds.r data-sent.Post (λ κs a. a.0 ≡ needing) (λ κs a x s. x ≡ for-controller.Packet (up.Data (record { 0 = 3 })))
 unfolding rules.ends numbers_rules
-data_in_need_i κs a x s e w p = let q : for-controller.Packet (up.Data (record { 0 = 3 })) ≡ for-controller.Nothing = sym w ∙ p ∙ ap (λ (z : console-mode.Mode). for_controller_back (rules.data-sent (console.mode z))) e in clash cc
+data_in_need_i κs a x s e w p = let q : for-controller.Packet (up.Data (record { 0 = 3 })) ≡ for-controller.Nothing = sym w ∙ p ∙ ap (λ (z : console-mode.Mode). for_controller_back (rules.data_sent (console.mode z))) e in clash cc
 
 pub no_data : RulesOut data-sent-kinds.ps data-sent-kinds.r data-sent.Post (λ κs a. a.0 ≡ sending) (λ κs a x s. x ≡ for-controller.Nothing)
 unfolding rules.ends numbers_rules
-no_data κs a x s e w p = let q : for-controller.Nothing ≡ for-controller.Packet (up.Data (record { 0 = 3 })) = sym w ∙ p ∙ ap (λ (z : console-mode.Mode). for_controller_back (rules.data-sent (console.mode z))) e in clash cc
+no_data κs a x s e w p = let q : for-controller.Nothing ≡ for-controller.Packet (up.Data (record { 0 = 3 })) = sym w ∙ p ∙ ap (λ (z : console-mode.Mode). for_controller_back (rules.data_sent (console.mode z))) e in clash cc
 
 pub done_for_the_order_being_sent : RulesOut takes-what-came-kinds.ps takes-what-came-kinds.r takes-what-came.Post (λ κs a. (a.0 ≡ console_in sending true) × (a.1.0 ≡ for-console.Packet (down.Offer (record { 0 = 1 }) (record { 0 = 3 })))) (λ κs a x s. x.sent ≡ for-controller.Packet (up.Done (record { 0 = 3 })))
 unfolding rules.ends numbers_rules

@@ -47,19 +47,19 @@ acking = Ack (record { 0 = 3 })
 
 pub offer_in_ack : RulesOut offer-sent-kinds.ps offer-sent-kinds.r offer-sent.Post (λ κs a. a.0 ≡ acking) (λ κs a x s. x ≡ for-console.Packet (down.Offer (record { 0 = 1 }) (record { 0 = 3 })))
 unfolding rules.ends numbers_rules
-offer_in_ack κs a x s e w p = let q : for-console.Packet (down.Offer (record { 0 = 1 }) (record { 0 = 3 })) ≡ for-console.Nothing = sym w ∙ p ∙ ap (λ (z : controller-mode.Mode). for_console_back (rules.offer-sent (controller.mode z))) e in clash cc
+offer_in_ack κs a x s e w p = let q : for-console.Packet (down.Offer (record { 0 = 1 }) (record { 0 = 3 })) ≡ for-console.Nothing = sym w ∙ p ∙ ap (λ (z : controller-mode.Mode). for_console_back (rules.offer_sent (controller.mode z))) e in clash cc
 
 pub no_offer : RulesOut offer-sent-kinds.ps offer-sent-kinds.r offer-sent.Post (λ κs a. a.0 ≡ accepting) (λ κs a x s. x ≡ for-console.Nothing)
 unfolding rules.ends numbers_rules
-no_offer κs a x s e w p = let q : for-console.Nothing ≡ for-console.Packet (down.Offer (record { 0 = 1 }) (record { 0 = 3 })) = sym w ∙ p ∙ ap (λ (z : controller-mode.Mode). for_console_back (rules.offer-sent (controller.mode z))) e in clash cc
+no_offer κs a x s e w p = let q : for-console.Nothing ≡ for-console.Packet (down.Offer (record { 0 = 1 }) (record { 0 = 3 })) = sym w ∙ p ∙ ap (λ (z : controller-mode.Mode). for_console_back (rules.offer_sent (controller.mode z))) e in clash cc
 
 pub ok_in_accept : RulesOut ok-sent-kinds.ps ok-sent-kinds.r ok-sent.Post (λ κs a. a.0 ≡ accepting) (λ κs a x s. x ≡ for-console.Packet (down.Ok (record { 0 = 3 })))
 unfolding rules.ends numbers_rules
-ok_in_accept κs a x s e w p = let q : for-console.Packet (down.Ok (record { 0 = 3 })) ≡ for-console.Nothing = sym w ∙ p ∙ ap (λ (z : controller-mode.Mode). for_console_back (rules.ok-sent (controller.mode z))) e in clash cc
+ok_in_accept κs a x s e w p = let q : for-console.Packet (down.Ok (record { 0 = 3 })) ≡ for-console.Nothing = sym w ∙ p ∙ ap (λ (z : controller-mode.Mode). for_console_back (rules.ok_sent (controller.mode z))) e in clash cc
 
 pub no_ok : RulesOut ok-sent-kinds.ps ok-sent-kinds.r ok-sent.Post (λ κs a. a.0 ≡ acking) (λ κs a x s. x ≡ for-console.Nothing)
 unfolding rules.ends numbers_rules
-no_ok κs a x s e w p = let q : for-console.Nothing ≡ for-console.Packet (down.Ok (record { 0 = 3 })) = sym w ∙ p ∙ ap (λ (z : controller-mode.Mode). for_console_back (rules.ok-sent (controller.mode z))) e in clash cc
+no_ok κs a x s e w p = let q : for-console.Nothing ≡ for-console.Packet (down.Ok (record { 0 = 3 })) = sym w ∙ p ∙ ap (λ (z : controller-mode.Mode). for_console_back (rules.ok_sent (controller.mode z))) e in clash cc
 
 pub lost_to_a_repeat : RulesOut takes-what-came-kinds.ps takes-what-came-kinds.r takes-what-came.Post (λ κs a. (a.0 ≡ controller_in acking true) × (a.1.0 ≡ for-controller.Packet (up.Data (record { 0 = 3 })))) (λ κs a x s. x.sent ≡ for-console.Packet (down.Lost (record { 0 = 3 })))
 unfolding rules.ends numbers_rules

@@ -1,0 +1,7 @@
+-- `ends_console::acts::takes_what_came` meets its contract.
+use Rattle.ends_console.proofs.ActsDone.{takes_moved}
+use Rattle.ends_console.proofs.acts.takes_what_came.Goals as goal
+
+pub returns : goal.returns
+returns c =
+    search takes_moved

@@ -1,0 +1,11 @@
+-- `ends_console::turns::takes_what_came` meets its contract.
+use Rattle.ends_console.proofs.ActsDone.{takes_none, takes_one}
+use Rattle.ends_console.proofs.turns.takes_what_came.Goals as goal
+
+pub returns-in-Nothing : goal.returns-in-Nothing
+returns-in-Nothing c =
+    search takes_none
+
+pub returns-in-Packet : goal.returns-in-Packet
+returns-in-Packet c =
+    search takes_one

@@ -1,0 +1,11 @@
+-- `ends_controller::decides::takes_one` meets its contract.
+use Rattle.ends_controller.proofs.Decisions.{take_4, take_turns}
+use Rattle.ends_controller.proofs.decides.takes_one.Goals as goal
+
+pub returns-then-not-up : goal.returns-then-not-up
+returns-then-not-up c =
+    search take_4
+
+pub returns : goal.returns
+returns c =
+    search take_turns

@@ -9,7 +9,7 @@ use mathlib.Core.List.{List}
 use lib.ListN.{length}
 use lib.Dec.{eqb}
 use Rattle.ground.specs.Cell.{is_message}
-use Rattle.ground.specs.Choice.{if◌then◌else◌}
+use Rattle.ground.specs.Choice.{when◌then◌else◌}
 use Rattle.ground.proofs.Promise.{clash, unequal}
 use Rattle.ground.proofs.Tests.{by_test}
 use Rattle.wire.specs.Packet.{packet_read}
@@ -76,7 +76,7 @@ module _ (R : ℕ → Type 0) (one : R 1) (two : R 2) (twelve : R 12) (fifteen :
     ConsoleDoes k = (a : rules.ConsoleAct (List ℕ)) → ConsoleActOf m packet k a → console_ok c ≡ true → Q (console_alone_acts c reply a)
 
     console_lent_lem : (x : ConsoleAlone) → Q x → Q (console_lent c reply x)
-    unfolding lent if◌then◌else◌
+    unfolding lent when◌then◌else◌
     console_lent_lem x h = by_test (eqb (length reply) 32) (λ t. rw t h) (λ f. rw f (refuses 12 twelve))
 
     console_came_lem : console_ok c ≡ true → ConsoleDoes ConsoleAsk.to_take → (h : Head) → (packet_read packet).head ≡ read_head.Is h → (f : ForConsole) → head_for_console h ≡ f → Q (console_alone_takes c reply f)
@@ -98,7 +98,7 @@ module _ (R : ℕ → Type 0) (one : R 1) (two : R 2) (twelve : R 12) (fifteen :
     console_asked_lem ok letters.to_tell_ack acts = acts rules.tell_ack refl ok
 
     pub console_by_act : (byte : ℕ) → ((l : Letter) (k : ConsoleAsk) → letter byte ≡ some l → (line l).asks ≡ the_console k → ConsoleDoes k) → Q (console_alone c byte m packet reply)
-    unfolding console_alone if◌then◌else◌
+    unfolding console_alone when◌then◌else◌
     console_by_act byte acts = by_letter (letter byte) refl
       where
         by_asks : (l : Letter) → letter byte ≡ some l → (a : Asks) → (line l).asks ≡ a → Q (console_asks c reply m packet a)
@@ -116,7 +116,7 @@ module _ (R : ℕ → Type 0) (one : R 1) (two : R 2) (twelve : R 12) (fifteen :
     ControllerDoes k = (a : rules.ControllerAct (List ℕ)) → ControllerActOf packet k a → controller_ok c ≡ true → Q (controller_alone_acts c reply a)
 
     controller_lent_lem : (x : ControllerAlone) → Q x → Q (controller_lent c reply x)
-    unfolding lent if◌then◌else◌
+    unfolding lent when◌then◌else◌
     controller_lent_lem x h = by_test (eqb (length reply) 32) (λ t. rw t h) (λ f. rw f (refuses 12 twelve))
 
     controller_came_lem : controller_ok c ≡ true → ControllerDoes ControllerAsk.to_take → (h : Head) → (packet_read packet).head ≡ read_head.Is h → (f : ForController) → head_for_controller h ≡ f → Q (controller_alone_takes c reply (packet_read packet).message f)
@@ -138,7 +138,7 @@ module _ (R : ℕ → Type 0) (one : R 1) (two : R 2) (twelve : R 12) (fifteen :
     controller_asked_lem ok ControllerAsk.to_come_back acts = acts rules.ControllerAct.come_back refl ok
 
     pub controller_by_act : (byte : ℕ) → ((l : Letter) (k : ControllerAsk) → letter byte ≡ some l → (line l).asks ≡ the_controller k → ControllerDoes k) → Q (controller_alone c byte packet reply)
-    unfolding controller_alone if◌then◌else◌
+    unfolding controller_alone when◌then◌else◌
     controller_by_act byte acts = by_letter (letter byte) refl
       where
         by_asks : (l : Letter) → letter byte ≡ some l → (a : Asks) → (line l).asks ≡ a → Q (controller_asks c reply packet a)

@@ -8,7 +8,7 @@ use native.Mathlib.Omega.{arith}
 use lib.ListN.{length}
 use lib.Dec.{eqb}
 use borrow.Author.Tests.{eq-eqb, ne_eqb, eqb-true, eqb-false}
-use Rattle.ground.specs.Choice.{if◌then◌else◌}
+use Rattle.ground.specs.Choice.{when◌then◌else◌}
 use Rattle.ground.specs.Cell.{is_message}
 use Rattle.ground.specs.First.{first, refusal, applies}
 use Rattle.ground.proofs.Tests.{by_test}
@@ -75,35 +75,35 @@ module _ (e : End) (good : Bool) where
 
   -- 4 and 6 of what the code would send
   refuses_need_i : {s : ForController} → s ≡ for_controller_back (rules.need_i_sent (mode e.mode)) → first (rules.down_4 e.up ∷ rules.mode_6 (for_controller s) ∷ []) ≡ refused_by rules.send_need_i
-  unfolding refusal first applies if◌then◌else◌ rules.console_rules
+  unfolding refusal first applies when◌then◌else◌ rules.console_rules
   refuses_need_i f = rw (f, same_for_controller (rules.need_i_sent (mode e.mode)))
 
   refuses_data : {s : ForController} → s ≡ for_controller_back (rules.data_sent (mode e.mode)) → first (rules.down_4 e.up ∷ rules.mode_6 (for_controller s) ∷ []) ≡ refused_by rules.send_data
-  unfolding refusal first applies if◌then◌else◌ rules.console_rules
+  unfolding refusal first applies when◌then◌else◌ rules.console_rules
   refuses_data f = rw (f, same_for_controller (rules.data_sent (mode e.mode)))
 
   take_4 : (p : ToConsole) → e.up ≡ false → 4 ≡ refused_by (rules.ConsoleAct.take (some (to_console p)))
-  unfolding refusal first applies if◌then◌else◌ rules.console_rules
+  unfolding refusal first applies when◌then◌else◌ rules.console_rules
   take_4 p u = rw u
 
   take_0 : (p : ToConsole) → e.up ≡ true → 0 ≡ refused_by (rules.ConsoleAct.take (some (to_console p)))
-  unfolding refusal first applies if◌then◌else◌ rules.console_rules
+  unfolding refusal first applies when◌then◌else◌ rules.console_rules
   take_0 p u = rw u
 
   down_0 : 0 ≡ refused_by rules.ConsoleAct.go_down
-  unfolding refusal first applies if◌then◌else◌ rules.console_rules
+  unfolding refusal first applies when◌then◌else◌ rules.console_rules
   down_0 = refl
 
   back_5 : e.up ≡ true → 5 ≡ refused_by rules.ConsoleAct.come_back
-  unfolding refusal first applies if◌then◌else◌ rules.console_rules
+  unfolding refusal first applies when◌then◌else◌ rules.console_rules
   back_5 u = rw u
 
   back_0 : e.up ≡ false → 0 ≡ refused_by rules.ConsoleAct.come_back
-  unfolding refusal first applies if◌then◌else◌ rules.console_rules
+  unfolding refusal first applies when◌then◌else◌ rules.console_rules
   back_0 u = rw u
 
   refuses_ack : first (rules.down_4 e.up ∷ (6, rules.holding (mode e.mode)) ∷ []) ≡ refused_by rules.tell_ack
-  unfolding refusal first applies if◌then◌else◌ rules.console_rules
+  unfolding refusal first applies when◌then◌else◌ rules.console_rules
   refuses_ack = refl
 
 -- ## An act of a console that was read
@@ -183,21 +183,21 @@ module _ {n : ℕ} (c : Console) (e : End) (read : console_read c ≡ Is e) (lon
 module _ (c : Console) (reply : List ℕ) where
   -- the reply buffer has another length
   pub lent_12 : {x : ConsoleOutcome} (y : ConsoleAlone) → (length reply ≡ 32 → ⊥) → x ≡ refusing 12 c → record { outcome = x; reply = reply } ≡ console_lent c reply y
-  unfolding lent if◌then◌else◌
+  unfolding lent when◌then◌else◌
   lent_12 y l h = (λ i. record { outcome = h i; reply = reply }) ∙ rw (ne_eqb (length reply) 32 l)
 
   lent_so : {x : ConsoleAlone} (y : ConsoleAlone) → length reply ≡ 32 → x ≡ y → x ≡ console_lent c reply y
-  unfolding lent if◌then◌else◌
+  unfolding lent when◌then◌else◌
   lent_so y l h = rw (eq-eqb (length reply) 32 l) h
 
   module _ {n : ℕ} (s : ForController) (up : Bool) (l : length reply ≡ 32) (refuses : n ≡ first (rules.down_4 up ∷ rules.mode_6 (for_controller s) ∷ [])) where
     pub sends_refused : {x : ConsoleOutcome} → (n ≡ 0 → ⊥) → x ≡ refusing n c → record { outcome = x; reply = reply } ≡ console_lent c reply (console_sends c up s reply)
-    unfolding console_sends if◌then◌else◌
+    unfolding console_sends when◌then◌else◌
     sends_refused z h = lent_so _ l ((λ i. record { outcome = h i; reply = reply }) ∙ rw (← refuses, ne_eqb n 0 z))
 
     pub sends_done : {b : Bool} {r : List ℕ} → n ≡ 0 → b ≡ not (rules.absent (for_controller s)) → r ≡ replied (to_controller_sent s c.message) reply
         → record { outcome = record { report = report.Nothing; sent = b; console = c }; reply = r } ≡ console_lent c reply (console_sends c up s reply)
-    unfolding console_sends if◌then◌else◌
+    unfolding console_sends when◌then◌else◌
     sends_done z f g =
         lent_so _ l ((λ i. record { outcome = record { report = report.Nothing; sent = f i; console = c }; reply = g i }) ∙ rw (← refuses, z))
 
@@ -218,7 +218,7 @@ module _ {s : ForController} (c : Console) (e : End) (reply : List ℕ) (read : 
 
   sends_so : (a : rules.ConsoleAct Beside) (o : Option (rules.ToController Beside)) → s ≡ for_controller_back o → first (rules.down_4 e.up ∷ rules.mode_6 (for_controller s) ∷ []) ≡ refusal_of numbering (end e) a c.message → console_acted e c.message a c.message ≡ stays e c.message o
       → use_of (in_console_act (λ _. c.message) a) ≡ leaves → console_sends c e.up s reply ≡ console_alone_acts c reply (in_console_act (λ _. c.message) a)
-  unfolding console_sends if◌then◌else◌
+  unfolding console_sends when◌then◌else◌
   sends_so a o f r w v =
       let n = first (rules.down_4 e.up ∷ rules.mode_6 (for_controller s) ∷ []) in
       by_test (eqb n 0)
@@ -321,14 +321,14 @@ module _ {f : Found} (c : Console) (b : ℕ) (m packet reply : List ℕ) (finds 
 
   module _ {l : Line} {a : ConsoleAsk} {r : ConsoleRead} (g : f ≡ found.Line l) (s : l.asks ≡ asked.Console a) (reads : r ≡ console_read c) where
     pub alone_ill : {x : ConsoleOutcome} → r ≡ IllFormed → x ≡ refusing 2 c → record { outcome = x; reply = reply } ≡ console_alone c b m packet reply
-    unfolding if◌then◌else◌
+    unfolding when◌then◌else◌
     alone_ill i h =
         let no : console_ok c ≡ false = not_read c (sym reads ∙ i) in
         let two : console_refused 2 c reply ≡ console_asks c reply m packet (asks_means (asked.Console a)) = rw no in
         (λ i. record { outcome = h i; reply = reply }) ∙ two ∙ by_asks g s
 
     pub alone_asked : {x : ConsoleAlone} {e : End} → r ≡ Is e → x ≡ console_asked c reply m packet (console_ask_means a) → x ≡ console_alone c b m packet reply
-    unfolding if◌then◌else◌
+    unfolding when◌then◌else◌
     alone_asked i h =
         let yes : console_ok c ≡ true = (was_read c (sym reads ∙ i)).0 in
         let does : console_asked c reply m packet (console_ask_means a) ≡ console_asks c reply m packet (asks_means (asked.Console a)) = rw yes in
@@ -339,7 +339,7 @@ read_as c f g = sym f ∙ g
 
 -- whatever is asked of a console that is not well formed is refused
 pub ill_refused : (P : Report → Type 0) → ((n : ℕ) → P (report.Refused n)) → (c : Console) → console_ok c ≡ false → (l : ℕ) (m packet reply : List ℕ) → P (console_alone c l m packet reply).outcome.report
-unfolding console_alone if◌then◌else◌
+unfolding console_alone when◌then◌else◌
 ill_refused P refuses c f l m packet reply = by_letter (letter l)
   where
     by_asks : (a : Asks) → P (console_asks c reply m packet a).outcome.report

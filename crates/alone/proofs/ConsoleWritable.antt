@@ -7,7 +7,7 @@ use mathlib.Core.List.{List}
 use native.Mathlib.Omega.{arith}
 use lib.ListN.{length}
 use borrow.Author.Tests.{ne_eqb}
-use Rattle.ground.specs.Choice.{if◌then◌else◌}
+use Rattle.ground.specs.Choice.{when◌then◌else◌}
 use Rattle.ground.specs.Cell.{is_message, spaces}
 use Rattle.ground.proofs.Promise.{clash}
 use Rattle.wire.specs.declared.J.{J}
@@ -54,15 +54,15 @@ abbrev Meant : Console → Type 0
 Meant c = Bears (console_means c).mode
 
 idle_meant : (u : Numbers) (up ack : Bool) → Sound u → Meant (console_with u Idle up ack spaces)
-unfolding console_mode if◌then◌else◌
+unfolding console_mode when◌then◌else◌
 idle_meant u up ack s = tt
 
 need_meant : (u : Numbers) (j : J) (up ack : Bool) (m : List ℕ) → Sound u → 0 < j.0 → its_own u j ≡ true → is_message m ≡ true → Meant (console_with u (NeedI j) up ack m)
-unfolding console_mode if◌then◌else◌
+unfolding console_mode when◌then◌else◌
 need_meant u j up ack m s h l g = rw (ne_eqb j.0 0 (omega arith)) (h, g)
 
 send_meant : (u : Numbers) (l : I) (up ack : Bool) (m : List ℕ) → Sound u → 0 < l.0 → is_message m ≡ true → Meant (console_with u (Send l) up ack m)
-unfolding console_mode if◌then◌else◌
+unfolding console_mode when◌then◌else◌
 send_meant u l up ack m s h g = (h, g)
 
 meant : (c : Console) → length c.message ≡ 16 → console_ok c ≡ true → Meant c

@@ -9,7 +9,7 @@ use lib.ListN.{length, drop}
 use lib.Dec.{eqb}
 use borrow.Author.Tests.{eq-eqb, ne_eqb, eqb-true, eqb-false}
 use Rattle.ground.specs.Cell.{spaces}
-use Rattle.ground.specs.Choice.{if◌then◌else◌}
+use Rattle.ground.specs.Choice.{when◌then◌else◌}
 use Rattle.ground.specs.First.{first, refusal, applies}
 use Rattle.ground.proofs.Tests.{by_test}
 use Rattle.wire.specs.Packet.{numbered, packet_read}
@@ -72,23 +72,23 @@ module _ (e : End) where
 
   -- 4 and 6 of what the code would send
   refuses_offer : {s : ForConsole} → s ≡ for_console_back (rules.offer_sent (mode e.mode)) → first (rules.down_4 e.up ∷ rules.mode_6 (for_console s) ∷ []) ≡ refused_by rules.send_offer
-  unfolding refusal first applies if◌then◌else◌ rules.controller_rules
+  unfolding refusal first applies when◌then◌else◌ rules.controller_rules
   refuses_offer f = rw (f, same_for_console (rules.offer_sent (mode e.mode)))
 
   refuses_ok : {s : ForConsole} → s ≡ for_console_back (rules.ok_sent (mode e.mode)) → first (rules.down_4 e.up ∷ rules.mode_6 (for_console s) ∷ []) ≡ refused_by rules.send_ok
-  unfolding refusal first applies if◌then◌else◌ rules.controller_rules
+  unfolding refusal first applies when◌then◌else◌ rules.controller_rules
   refuses_ok f = rw (f, same_for_console (rules.ok_sent (mode e.mode)))
 
   down_0 : 0 ≡ refused_by rules.ControllerAct.go_down
-  unfolding refusal first applies if◌then◌else◌ rules.controller_rules
+  unfolding refusal first applies when◌then◌else◌ rules.controller_rules
   down_0 = refl
 
   back_5 : e.up ≡ true → 5 ≡ refused_by rules.ControllerAct.come_back
-  unfolding refusal first applies if◌then◌else◌ rules.controller_rules
+  unfolding refusal first applies when◌then◌else◌ rules.controller_rules
   back_5 u = rw u
 
   back_0 : e.up ≡ false → 0 ≡ refused_by rules.ControllerAct.come_back
-  unfolding refusal first applies if◌then◌else◌ rules.controller_rules
+  unfolding refusal first applies when◌then◌else◌ rules.controller_rules
   back_0 u = rw u
 
 -- ## An act of a controller that was read
@@ -141,21 +141,21 @@ module _ {x : ControllerOutcome} (c : Controller) (e : End) (read : controller_r
 module _ (c : Controller) (reply : List ℕ) where
   -- the reply buffer has another length
   pub lent_12 : {x : ControllerOutcome} (y : ControllerAlone) → (length reply ≡ 32 → ⊥) → x ≡ refusing 12 c → record { outcome = x; reply = reply } ≡ controller_lent c reply y
-  unfolding lent if◌then◌else◌
+  unfolding lent when◌then◌else◌
   lent_12 y l h = (λ i. record { outcome = h i; reply = reply }) ∙ rw (ne_eqb (length reply) 32 l)
 
   lent_so : {x : ControllerAlone} (y : ControllerAlone) → length reply ≡ 32 → x ≡ y → x ≡ controller_lent c reply y
-  unfolding lent if◌then◌else◌
+  unfolding lent when◌then◌else◌
   lent_so y l h = rw (eq-eqb (length reply) 32 l) h
 
   module _ {n : ℕ} (s : ForConsole) (up : Bool) (l : length reply ≡ 32) (refuses : n ≡ first (rules.down_4 up ∷ rules.mode_6 (for_console s) ∷ [])) where
     pub sends_refused : {x : ControllerOutcome} → (n ≡ 0 → ⊥) → x ≡ refusing n c → record { outcome = x; reply = reply } ≡ controller_lent c reply (controller_sends c up s reply)
-    unfolding controller_sends if◌then◌else◌
+    unfolding controller_sends when◌then◌else◌
     sends_refused z h = lent_so _ l ((λ i. record { outcome = h i; reply = reply }) ∙ rw (← refuses, ne_eqb n 0 z))
 
     pub sends_done : {b : Bool} {r : List ℕ} → n ≡ 0 → b ≡ not (rules.absent (for_console s)) → r ≡ replied (to_console_sent s) reply
         → record { outcome = record { report = report.Nothing; message = spaces; sent = b; controller = c }; reply = r } ≡ controller_lent c reply (controller_sends c up s reply)
-    unfolding controller_sends if◌then◌else◌
+    unfolding controller_sends when◌then◌else◌
     sends_done z f g =
         lent_so _ l ((λ i. record { outcome = record { report = report.Nothing; message = spaces; sent = f i; controller = c }; reply = g i }) ∙ rw (← refuses, z))
 
@@ -175,7 +175,7 @@ module _ {s : ForConsole} (c : Controller) (e : End) (reply : List ℕ) (read : 
 
   sends_so : (a : rules.ControllerAct Beside) (o : Option rules.ToConsole) → s ≡ for_console_back o → first (rules.down_4 e.up ∷ rules.mode_6 (for_console s) ∷ []) ≡ refusal_of numbering (end e) a → controller_acted e a spaces ≡ stays e o
       → controller_sends c e.up s reply ≡ controller_alone_acts c reply (in_controller_act (λ _. spaces) a)
-  unfolding controller_sends if◌then◌else◌
+  unfolding controller_sends when◌then◌else◌
   sends_so a o f r w =
       let n = first (rules.down_4 e.up ∷ rules.mode_6 (for_console s) ∷ []) in
       by_test (eqb n 0)
@@ -274,14 +274,14 @@ module _ {f : Found} (c : Controller) (b : ℕ) (packet reply : List ℕ) (finds
 
   module _ {l : Line} {a : ControllerAsk} {r : ControllerRead} (g : f ≡ found.Line l) (s : l.asks ≡ asked.Controller a) (reads : r ≡ controller_read c) where
     pub alone_ill : {x : ControllerOutcome} → r ≡ IllFormed → x ≡ refusing 2 c → record { outcome = x; reply = reply } ≡ controller_alone c b packet reply
-    unfolding if◌then◌else◌
+    unfolding when◌then◌else◌
     alone_ill i h =
         let no : controller_ok c ≡ false = not_read c (sym reads ∙ i) in
         let two : controller_refused 2 c reply ≡ controller_asks c reply packet (asks_means (asked.Controller a)) = rw no in
         (λ i. record { outcome = h i; reply = reply }) ∙ two ∙ by_asks g s
 
     pub alone_asked : {x : ControllerAlone} {e : End} → r ≡ Is e → x ≡ controller_asked c reply packet (controller_ask_means a) → x ≡ controller_alone c b packet reply
-    unfolding if◌then◌else◌
+    unfolding when◌then◌else◌
     alone_asked i h =
         let yes : controller_ok c ≡ true = (was_read c (sym reads ∙ i)).0 in
         let does : controller_asked c reply packet (controller_ask_means a) ≡ controller_asks c reply packet (asks_means (asked.Controller a)) = rw yes in
@@ -292,7 +292,7 @@ read_as c f g = sym f ∙ g
 
 -- whatever is asked of a controller that is not well formed is refused
 pub ill_refused : (P : Report → Type 0) → ((n : ℕ) → P (report.Refused n)) → (c : Controller) → controller_ok c ≡ false → (l : ℕ) (packet reply : List ℕ) → P (controller_alone c l packet reply).outcome.report
-unfolding controller_alone if◌then◌else◌
+unfolding controller_alone when◌then◌else◌
 ill_refused P refuses c f l packet reply = by_letter (letter l)
   where
     by_asks : (a : Asks) → P (controller_asks c reply packet a).outcome.report

@@ -5,7 +5,7 @@ use mathlib.Core.Bool.{Bool, true}
 use mathlib.Core.Option.{Option, none, some, map}
 use native.Mathlib.Omega.{arith}
 use borrow.Author.Tests.{ne_eqb}
-use Rattle.ground.specs.Choice.{if◌then◌else◌}
+use Rattle.ground.specs.Choice.{when◌then◌else◌}
 use Rattle.ground.proofs.Promise.{clash}
 use Rattle.wire.specs.declared.J.{J}
 use Rattle.wire.specs.declared.I.{I}
@@ -49,15 +49,15 @@ abbrev Meant : Controller → Type 0
 Meant c = Bears (controller_means c).mode
 
 idle_meant : (u : Numbers) (up : Bool) → Sound u → Meant (controller_with u Idle up)
-unfolding controller_mode if◌then◌else◌
+unfolding controller_mode when◌then◌else◌
 idle_meant u up s = tt
 
 accept_meant : (u : Numbers) (j : J) (i : I) (up : Bool) → Sound u → 0 < j.0 → 0 < i.0 → its_own u i ≡ true → Meant (controller_with u (Accept j i) up)
-unfolding controller_mode if◌then◌else◌
+unfolding controller_mode when◌then◌else◌
 accept_meant u j i up s h k o = rw (ne_eqb i.0 0 (omega arith)) (h, k)
 
 ack_meant : (u : Numbers) (l : I) (up : Bool) → Sound u → 0 < l.0 → its_own u l ≡ true → Meant (controller_with u (Ack l) up)
-unfolding controller_mode if◌then◌else◌
+unfolding controller_mode when◌then◌else◌
 ack_meant u l up s h o = rw (ne_eqb l.0 0 (omega arith)) h
 
 meant : (c : Controller) → controller_ok c ≡ true → Meant c

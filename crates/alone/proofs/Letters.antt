@@ -7,7 +7,7 @@ use mathlib.Core.Option.{Option, none, some, map}
 use mathlib.Core.List.{List}
 use lib.ListN.{length}
 use Rattle.ground.specs.Cell.{is_message}
-use Rattle.ground.specs.Choice.{if◌then◌else◌}
+use Rattle.ground.specs.Choice.{when◌then◌else◌}
 use Rattle.ground.proofs.Promise.{clash}
 use Rattle.wire.specs.Packet.{packet_read}
 use Rattle.wire.specs.declared.ReadHead.{ReadHead}
@@ -75,7 +75,7 @@ module _ {S : Type 0} (b : Bench S (List ℕ)) (place : ℕ) (m packet reply : L
     console_hears_lem (read_head.Is h) q e = console_takes (head_for_console h) q e
 
     console_asks_lem : (a : Asks) → Lent a → console_asks c reply m packet a ≡ console_obeys (asked_to a b place m)
-    unfolding console_alone_acts lent if◌then◌else◌
+    unfolding console_alone_acts lent when◌then◌else◌
     console_asks_lem (the_console letters.to_put) h = rw ok
     console_asks_lem (the_console letters.to_send_need_i) h = rw (ok, h)
     console_asks_lem (the_console letters.to_send_data) h = rw (ok, h)
@@ -118,7 +118,7 @@ module _ {S : Type 0} (b : Bench S (List ℕ)) (place : ℕ) (m packet reply : L
     controller_hears_lem (read_head.Is h) q e = controller_takes (head_for_controller h) q e
 
     controller_asks_lem : (a : Asks) → Lent a → controller_asks c reply packet a ≡ controller_obeys (asked_to a b place m)
-    unfolding controller_alone_acts lent if◌then◌else◌
+    unfolding controller_alone_acts lent when◌then◌else◌
     controller_asks_lem (the_console a) h = console_no a
       where
         console_no : (a : ConsoleAsk) → controller_refused 1 c reply ≡ controller_obeys (asked_to (the_console a) b place m)

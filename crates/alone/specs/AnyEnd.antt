@@ -1,7 +1,7 @@
 -- An end run alone, wherever its numbers come from: what is refused before its rules are asked, refusal by refusal in document 01's order. Assumes nothing.
 use Rattle.std.specs.Prelude.{ℕ, Bool, List, eqb}
 use Rattle.std.proofs.Math.Option.{Option, none, some}
-use Rattle.ground.specs.Choice.{if◌then◌else◌}
+use Rattle.ground.specs.Choice.{when◌then◌else◌}
 use Rattle.wire.specs.declared.ReadHead.{ReadHead}
 use Rattle.wire.specs.declared.ReadHead.TheVariants as read_head
 use Rattle.wire.specs.declared.ReadPacket.{ReadPacket}
@@ -19,7 +19,7 @@ use Rattle.ends.specs.declared.ForController.TheVariants as for-controller
 module _ {R : Type 0} (refused : ℕ → R) where
   -- 12 of the reply buffer, whose length is looked at even with nothing to send
   unfoldable pub lent : ℕ → R → R
-  lent long asked = if eqb long 32 then asked else refused 12
+  lent long asked = when eqb long 32 then asked else refused 12
 
   -- ## A console, of which `acts` says what its rules do, or refuse
 
@@ -48,7 +48,7 @@ module _ {R : Type 0} (refused : ℕ → R) where
       module _ (ok : Bool) where
         -- 1: a letter that asks the other end, or none. 2: the console is not well formed
         abbrev pub any_console_asks : Asks → R
-        any_console_asks (the_console ask) = if ok then any_console_asked ask else refused 2
+        any_console_asks (the_console ask) = when ok then any_console_asked ask else refused 2
         any_console_asks (the_controller ask) = refused 1
         any_console_asks neither_end = refused 1
 
@@ -87,7 +87,7 @@ module _ {R : Type 0} (refused : ℕ → R) where
         -- 1: a letter that asks the other end, or none. 2: the controller is not well formed
         abbrev pub any_controller_asks : Asks → R
         any_controller_asks (the_console ask) = refused 1
-        any_controller_asks (the_controller ask) = if ok then any_controller_asked ask else refused 2
+        any_controller_asks (the_controller ask) = when ok then any_controller_asked ask else refused 2
         any_controller_asks neither_end = refused 1
 
         -- 1: no action has this letter

@@ -1,6 +1,6 @@
 -- What the private functions of a console run alone promise each other. Nothing of it stands in the entry's promise. Assumes nothing.
 use Rattle.std.specs.Prelude.{ℕ, Bool, false, not, List, [], ◌∷◌, eqb}
-use Rattle.ground.specs.Choice.{if◌then◌else◌}
+use Rattle.ground.specs.Choice.{when◌then◌else◌}
 use Rattle.ground.specs.First.{first}
 use Rattle.rules.specs.Ends.{absent, down_4, mode_6}
 use Rattle.rules.specs.Reading.{Use}
@@ -35,7 +35,7 @@ console_tells d u ack m reply =
 unfoldable pub console_sends : Console → Bool → ForController → List ℕ → ConsoleAlone
 console_sends c up sent reply =
     let n = first (down_4 up ∷ mode_6 (for_controller sent) ∷ []) in
-    if eqb n 0
+    when eqb n 0
     then record {
       outcome = record { report = report.Nothing; sent = not (absent (for_controller sent)); console = c };
       reply = replied (to_controller_sent sent c.message) reply;

@@ -1,7 +1,7 @@
 -- What the private functions of a controller run alone promise each other. Nothing of it stands in the entry's promise. Assumes nothing.
 use Rattle.std.specs.Prelude.{ℕ, Bool, not, List, [], ◌∷◌, eqb}
 use Rattle.ground.specs.Cell.{spaces}
-use Rattle.ground.specs.Choice.{if◌then◌else◌}
+use Rattle.ground.specs.Choice.{when◌then◌else◌}
 use Rattle.ground.specs.First.{first}
 use Rattle.rules.specs.Ends.{absent, down_4, mode_6}
 use Rattle.ends_controller.specs.Fields.{controller_fields}
@@ -32,7 +32,7 @@ controller_tells d m reply =
 unfoldable pub controller_sends : Controller → Bool → ForConsole → List ℕ → ControllerAlone
 controller_sends c up sent reply =
     let n = first (down_4 up ∷ mode_6 (for_console sent) ∷ []) in
-    if eqb n 0
+    when eqb n 0
     then record {
       outcome = record { report = report.Nothing; message = spaces; sent = not (absent (for_console sent)); controller = c };
       reply = replied (to_console_sent sent) reply;

@@ -5,7 +5,7 @@ use mathlib.Core.Bool.{Bool, true, false, not, ◌&&◌}
 use mathlib.Core.List.{List}
 use borrow.Author.Tests.{not-true, not-false}
 use Rattle.ground.specs.Bytes.{Bytes}
-use Rattle.ground.specs.Choice.{if◌then◌else◌}
+use Rattle.ground.specs.Choice.{when◌then◌else◌}
 use Rattle.ground.proofs.Tests.{and_left, and_right, and_both}
 use Rattle.wire.specs.declared.Direction.TheVariants.{ToController, ToConsole}
 use Rattle.ends_console.specs.Fields.{console_ok, console_end, console_read}
@@ -101,11 +101,11 @@ module _ (b : Bench) (out back : List ℕ) (ok : bench_ok b out back ≡ true) w
   tables_pass = and_both t u (and_right (c && d) t (and_left (c && d && t) u ok)) (and_right (c && d && t) u ok)
 
   console_is_read : console_read b.console ≡ console-read.Is (console_end b.console)
-  unfolding console_read if◌then◌else◌
+  unfolding console_read when◌then◌else◌
   console_is_read = rw console_passes
 
   controller_is_read : controller_read b.controller ≡ controller-read.Is (controller_end b.controller)
-  unfolding controller_read if◌then◌else◌
+  unfolding controller_read when◌then◌else◌
   controller_is_read = rw controller_passes
 
   pub passes_well : Typed b.console b.controller → Bytes out → Bytes back → Well (loaded_of (console_end b.console) b.console.ack b.console.message (controller_end b.controller) b.sent b.returned) out back

@@ -8,7 +8,7 @@ use native.Mathlib.Omega.{arith}
 use lib.Dec.{eqb, leb}
 use borrow.Author.Tests.{eqb-true, eq-eqb, not-false}
 use Rattle.ground.specs.Cell.{is_message, spaces}
-use Rattle.ground.specs.Choice.{if◌then◌else◌}
+use Rattle.ground.specs.Choice.{when◌then◌else◌}
 use Rattle.ground.specs.First.{refusal}
 use Rattle.ground.proofs.Tests.{by_test}
 use Rattle.rules.specs.Lists.{Opt}
@@ -53,8 +53,8 @@ use Rattle.bench.proofs.Tables.{left, held, taken_holds, sent_holds}
 
 -- ## What a put alone looks at and keeps
 
-same_flag : (e : ends.Console Offer Beside) (ask : ConsoleAsk) (p : ForConsole) (good : Bool) → refusal (ends.console_rules offered (tested (if puts ask then good else true)) e (asked_to ask p)) ≡ refusal (ends.console_rules offered (tested good) e (asked_to ask p))
-unfolding ends.console_rules if◌then◌else◌
+same_flag : (e : ends.Console Offer Beside) (ask : ConsoleAsk) (p : ForConsole) (good : Bool) → refusal (ends.console_rules offered (tested (when puts ask then good else true)) e (asked_to ask p)) ≡ refusal (ends.console_rules offered (tested good) e (asked_to ask p))
+unfolding ends.console_rules when◌then◌else◌
 same_flag e Put p good = refl
 same_flag e SendNeedI p good = refl
 same_flag e SendData p good = refl
@@ -63,8 +63,8 @@ same_flag e GoDown p good = refl
 same_flag e ComeBack p good = refl
 same_flag e TellAck p good = refl
 
-kept_flag : (ask : ConsoleAsk) (p : ForConsole) (m h : List ℕ) → (if puts ask then m else h) ≡ kept (asked_to ask p) m h
-unfolding if◌then◌else◌
+kept_flag : (ask : ConsoleAsk) (p : ForConsole) (m h : List ℕ) → (when puts ask then m else h) ≡ kept (asked_to ask p) m h
+unfolding when◌then◌else◌
 kept_flag Put p m h = refl
 kept_flag SendNeedI p m h = refl
 kept_flag SendData p m h = refl
@@ -79,13 +79,13 @@ acts_number : (e : ends.Console Offer Beside) (act : ends.ConsoleAct Beside) →
 acts_number e act = console_reports (λ (r : ends.Report Beside). number_in (report_back r) ≡ 0) refl refl refl offered e act
 
 step_number : (g : Beside → Bool) (e : ends.Console Offer Beside) (act : ends.ConsoleAct Beside) → number_in (report_back (ends.console_step offered g e act).report) ≡ refusal (ends.console_rules offered g e act)
-unfolding ends.console_step if◌then◌else◌
+unfolding ends.console_step when◌then◌else◌
 step_number g e act =
     let n = refusal (ends.console_rules offered g e act) in
     by_test (eqb n 0) (λ t. rw t (acts_number e act ∙ sym (eqb-true n 0 t))) (λ f. rw f)
 
 step_acts : (g : Beside → Bool) (e : ends.Console Offer Beside) (act : ends.ConsoleAct Beside) → refusal (ends.console_rules offered g e act) ≡ 0 → ends.console_step offered g e act ≡ ends.console_acts offered e act
-unfolding ends.console_step if◌then◌else◌
+unfolding ends.console_step when◌then◌else◌
 step_acts g e act z = rw (eq-eqb (refusal (ends.console_rules offered g e act)) 0 z)
 
 -- ## The stages
@@ -108,8 +108,8 @@ module _ (b : Modes) (o : Offered) (out back : List ℕ) (line : Line) (a : Acti
     unfolding rules.end_rules modes_moved
     end_is = ap (λ (x : rules.Asked (List ℕ)). refusal (rules.end_rules offered is_message (B b o out back line a) x)) w.asks ∙ same_refusal offered e b.console.held act a.message
 
-    missing_is : (uses : Bool) → (uses && rules.missing (if uses then rules.from_to_console else rules.from_neither) (B b o out back line a) a.place) ≡ (uses && leb b.returned a.place)
-    unfolding rules.missing if◌then◌else◌ modes_moved
+    missing_is : (uses : Bool) → (uses && rules.missing (when uses then rules.from_to_console else rules.from_neither) (B b o out back line a) a.place) ≡ (uses && leb b.returned a.place)
+    unfolding rules.missing when◌then◌else◌ modes_moved
     missing_is false = refl
     missing_is true = absent_is (B b o out back line a).to_console a.place ∙ ap (λ (n : ℕ). leb n a.place) (packets_length to_console_coded b.returned back)
 
@@ -125,7 +125,7 @@ module _ (b : Modes) (o : Offered) (out back : List ℕ) (line : Line) (a : Acti
 
     -- ## Refused by the end, or for want of the packet
 
-    module _ {n : ℕ} {good : Bool} {dd : Decided} (g : good ≡ (if line.message then is_message a.message else true))
+    module _ {n : ℕ} {good : Bool} {dd : Decided} (g : good ≡ (when line.message then is_message a.message else true))
         (h : dd ≡ decided (ends.console_step offered (tested good) e act)) (q : n ≡ number_in dd.report) where
       good_number : n ≡ refusal (ends.console_rules offered (tested good) e act)
       good_number = q ∙ ap (λ (x : Decided). number_in x.report) h ∙ step_number (tested good) e act
@@ -133,7 +133,7 @@ module _ (b : Modes) (o : Offered) (out back : List ℕ) (line : Line) (a : Acti
       number_is : n ≡ refusal_of offered e act a.message
       number_is =
           good_number
-          ∙ ap (λ (x : Bool). refusal (ends.console_rules offered (tested x) e act)) (g ∙ ap (λ (x : Bool). if x then is_message a.message else true) w.message)
+          ∙ ap (λ (x : Bool). refusal (ends.console_rules offered (tested x) e act)) (g ∙ ap (λ (x : Bool). when x then is_message a.message else true) w.message)
           ∙ same_flag e ask came.console (is_message a.message)
 
       pub console_refused_lem : {r : Told} → (n ≡ 0 → ⊥) → r ≡ record { report = Refused n; message = spaces; console = Stay; controller = Stay; after = b } → told_as r o out back ≡ modes_step b o out back line a
@@ -157,12 +157,12 @@ module _ (b : Modes) (o : Offered) (out back : List ℕ) (line : Line) (a : Acti
   mode_again (ends.in_need_i j m) = refl
   mode_again (ends.in_send l m) = refl
 
-  module _ {dd : Decided} (w : ConsoleReady b o out back line a ask came dd) {h : List ℕ} (f : h ≡ (if line.message then a.message else b.console.held)) where
+  module _ {dd : Decided} (w : ConsoleReady b o out back line a ask came dd) {h : List ℕ} (f : h ≡ (when line.message then a.message else b.console.held)) where
     abbrev x : ends.ConsoleActed Offer Beside
     x = ends.console_acts offered e act
 
     held_is : h ≡ kept act a.message b.console.held
-    held_is = f ∙ ap (λ (y : Bool). if y then a.message else b.console.held) w.on.message ∙ kept_flag ask came.console a.message b.console.held
+    held_is = f ∙ ap (λ (y : Bool). when y then a.message else b.console.held) w.on.message ∙ kept_flag ask came.console a.message b.console.held
 
     same : in_console_acted (λ _. h) x ≡ d
     same = ap (λ (m : List ℕ). in_console_acted (λ _. m) x) held_is ∙ sym (acts_kept offered e b.console.held act a.message w.accepts)
@@ -200,9 +200,9 @@ module _ (b : Modes) (o : Offered) (out back : List ℕ) (line : Line) (a : Acti
           to_console = left line.place (B b o out back line a).to_console a.place;
         }
 
-    taken_does : (uses : Bool) → rules.does offered (rules.taken_out (if uses then rules.from_to_console else rules.from_neither) (B b o out back line a) a.place) a.copies (rules.Asked.console ract)
+    taken_does : (uses : Bool) → rules.does offered (rules.taken_out (when uses then rules.from_to_console else rules.from_neither) (B b o out back line a) a.place) a.copies (rules.Asked.console ract)
         ≡ record { report = d.report; after = record { console = d.after; controller = (B b o out back line a).controller; to_controller = (B b o out back line a).to_controller ++ rules.copies_of a.copies d.sent; to_console = left uses (B b o out back line a).to_console a.place } }
-    unfolding rules.does rules.taken_out left if◌then◌else◌ modes_moved
+    unfolding rules.does rules.taken_out left when◌then◌else◌ modes_moved
     taken_does false = refl
     taken_does true = refl
 

@@ -8,7 +8,7 @@ use native.Mathlib.Omega.{arith}
 use lib.Dec.{eqb, leb}
 use borrow.Author.Tests.{eqb-true, eq-eqb, ne_eqb, not-false}
 use Rattle.ground.specs.Cell.{is_message, spaces}
-use Rattle.ground.specs.Choice.{if◌then◌else◌}
+use Rattle.ground.specs.Choice.{when◌then◌else◌}
 use Rattle.ground.specs.First.{refusal}
 use Rattle.ground.proofs.Tests.{by_test}
 use Rattle.rules.specs.Lists.{Opt}
@@ -54,27 +54,27 @@ acts_number : (e : ends.Controller Offer) (act : ends.ControllerAct Beside) → 
 acts_number e act = controller_reports (λ (r : ends.Report Beside). number_in (report_back r) ≡ 0) refl (λ m. refl) offered e act
 
 step_number : (e : ends.Controller Offer) (act : ends.ControllerAct Beside) → number_in (report_back (ends.controller_step offered e act).report) ≡ refusal (ends.controller_rules offered e act)
-unfolding ends.controller_step if◌then◌else◌
+unfolding ends.controller_step when◌then◌else◌
 step_number e act =
     let n = refusal (ends.controller_rules offered e act) in
     by_test (eqb n 0) (λ t. rw t (acts_number e act ∙ sym (eqb-true n 0 t))) (λ f. rw f)
 
 step_acts : (e : ends.Controller Offer) (act : ends.ControllerAct Beside) → refusal (ends.controller_rules offered e act) ≡ 0 → ends.controller_step offered e act ≡ ends.controller_acts offered e act
-unfolding ends.controller_step if◌then◌else◌
+unfolding ends.controller_step when◌then◌else◌
 step_acts e act z = rw (eq-eqb (refusal (ends.controller_rules offered e act)) 0 z)
 
 -- ## 7 among the controller's refusals
 
 earlier : (n : ℕ) (u : Bool) → (n ≡ 0 → ⊥) → staged_7 n u ≡ n
-unfolding if◌then◌else◌
+unfolding when◌then◌else◌
 earlier n u z = rw (ne_eqb n 0 z)
 
 seventh : (n : ℕ) (u : Bool) → n ≡ 0 → u ≡ true → staged_7 n u ≡ 7
-unfolding if◌then◌else◌
+unfolding when◌then◌else◌
 seventh n u z t = rw (eq-eqb n 0 z, t)
 
 neither : (n : ℕ) (u : Bool) → n ≡ 0 → u ≡ false → staged_7 n u ≡ 0
-unfolding if◌then◌else◌
+unfolding when◌then◌else◌
 neither n u z f = rw (eq-eqb n 0 z, f)
 
 mode_again : (x : ends.ControllerMode) → mode (mode_back x) ≡ x
@@ -109,8 +109,8 @@ module _ (b : Modes) (o : Offered) (out back : List ℕ) (line : Line) (a : Acti
         ∙ same_refusal offered E act came.message
         ∙ w.seven E refl
 
-    missing_is : (uses : Bool) → (uses && rules.missing (if uses then rules.from_to_controller else rules.from_neither) (B b o out back line a) a.place) ≡ (uses && leb b.sent a.place)
-    unfolding rules.missing if◌then◌else◌ modes_moved
+    missing_is : (uses : Bool) → (uses && rules.missing (when uses then rules.from_to_controller else rules.from_neither) (B b o out back line a) a.place) ≡ (uses && leb b.sent a.place)
+    unfolding rules.missing when◌then◌else◌ modes_moved
     missing_is false = refl
     missing_is true = absent_is (B b o out back line a).to_controller a.place ∙ ap (λ (n : ℕ). leb n a.place) (packets_length to_controller_coded b.sent out)
 
@@ -205,9 +205,9 @@ module _ (b : Modes) (o : Offered) (out back : List ℕ) (line : Line) (a : Acti
           to_console = (B b o out back line a).to_console ++ rules.copies_of a.copies d.sent;
         }
 
-    taken_does : (uses : Bool) → rules.does offered (rules.taken_out (if uses then rules.from_to_controller else rules.from_neither) (B b o out back line a) a.place) a.copies (rules.Asked.controller ract)
+    taken_does : (uses : Bool) → rules.does offered (rules.taken_out (when uses then rules.from_to_controller else rules.from_neither) (B b o out back line a) a.place) a.copies (rules.Asked.controller ract)
         ≡ record { report = d.report; after = record { console = (B b o out back line a).console; controller = d.after; to_controller = left uses (B b o out back line a).to_controller a.place; to_console = (B b o out back line a).to_console ++ rules.copies_of a.copies d.sent } }
-    unfolding rules.does rules.taken_out left if◌then◌else◌ modes_moved
+    unfolding rules.does rules.taken_out left when◌then◌else◌ modes_moved
     taken_does false = refl
     taken_does true = refl
 

@@ -5,7 +5,7 @@ use mathlib.Core.Option.{Option, none, some}
 use mathlib.Core.List.{List, [], ◌∷◌, ◌++◌, map}
 use lib.ListN.{set, replicate}
 use Rattle.ground.specs.Cell.{cells, is_message, spaces}
-use Rattle.ground.specs.Choice.{if◌then◌else◌}
+use Rattle.ground.specs.Choice.{when◌then◌else◌}
 use Rattle.ground.specs.Every.{filled}
 use Rattle.listing.specs.Line.{decimals, line_bytes}
 use Rattle.listing.specs.Record.{is_place, is_copies, place_fits, copies_fit, message_fits, fields_fit, is_well_formed, fields, ill_formed, list_record}
@@ -21,7 +21,7 @@ use Rattle.bench.specs.declared.Action.{Action}
 -- for proofs: `unfolding reads` opens all that a record's action is made of
 unfoldable reads : Unit {0}
 unfolding list_action list_record is_well_formed fields ill_formed fields_fit place_fits copies_fit message_fits is_place is_copies is_message cells filled
-    line letters among letter line_of if◌then◌else◌
+    line letters among letter line_of when◌then◌else◌
 reads = tt
 
 -- ## Records
@@ -91,5 +91,5 @@ rows =
     ∷ []
 
 rows_written : map (λ (v : Row). report_line v.0 v.1 v.2 v.3) rows ≡ map (λ (v : Row). v.4 ++ (v.3 ++ (0x0A ∷ []))) rows
-unfolding report_line line_bytes decimals if◌then◌else◌
+unfolding report_line line_bytes decimals when◌then◌else◌
 rows_written = refl

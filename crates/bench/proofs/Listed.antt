@@ -11,7 +11,7 @@ use denote.Triple.Clauses.{AtExit}
 use lib.ListN.{length, get_or, take, drop, length-append}
 use lib.Seq.{take_at, drop_at}
 use Rattle.ground.specs.Cell.{is_message}
-use Rattle.ground.specs.Choice.{if◌then◌else◌}
+use Rattle.ground.specs.Choice.{when◌then◌else◌}
 use Rattle.ground.proofs.Tests.{by_test}
 use Rattle.ground.specs.Bytes.{field}
 use Rattle.rules.specs.Supply.{numbering, fresh_numbers}
@@ -48,7 +48,7 @@ use Rattle.bench.proofs.runner.run.Reads as run
 -- ## A record is played as the step plays its action
 
 played_as_lem : (o : Option Action) (b : Bench) (out back : List ℕ) → played_as o b out back ≡ bench_step b (action_or o) out back
-unfolding bench_step letter letters among line if◌then◌else◌
+unfolding bench_step letter letters among line when◌then◌else◌
 played_as_lem none b out back = refl
 played_as_lem (some a) b out back = refl
 
@@ -61,7 +61,7 @@ lines_are k b out back (s ∷ ss) =
     ∙ ap (λ (l : List ℕ). report_line k (get_or s 0 0) r.outcome.report r.outcome.message ++ l) (lines_are (suc k) r.outcome.bench r.out r.back ss)
 
 list_lines_lem : (n : ℕ) (s : List ℕ) → list_lines n s ≡ lines_of 1 (records_of n s) (fresh_outcomes j₀ i₀ clear clear (map action_of (records_of n s)))
-unfolding list_lines fresh_outcomes bench_fresh bench_told rules.fresh channel laid if◌then◌else◌
+unfolding list_lines fresh_outcomes bench_fresh bench_told rules.fresh channel laid when◌then◌else◌
 list_lines_lem n s = lines_are 1 _ clear clear (records_of n s)
 
 -- ## What a line shows is what its outcome shows
@@ -75,11 +75,11 @@ module _ (s : List ℕ) (b : Bench) (out back : List ℕ) where
   Owns o = (bench_step b (action_or o) out back).outcome.report ≡ report.Nothing → OwnAction s (action_or o)
 
   none_owns : Owns none
-  unfolding bench_step bench_refused letter letters among line if◌then◌else◌
+  unfolding bench_step bench_refused letter letters among line when◌then◌else◌
   none_owns e = absurd (let z : ◌≡◌ {A = ℕ} 0 1 = cc in omega (arith, z))
 
   letter_owns : (o : Option Letter) → letter (get_or s 0 0) ≡ o → Owns (action_as (found_of o) s)
-  unfolding list_record fields ill_formed line_of if◌then◌else◌
+  unfolding list_record fields ill_formed line_of when◌then◌else◌
   letter_owns none e = none_owns
   letter_owns (some l) e =
       by_test (is_well_formed (uses_of (line_of l)) s) (λ t. rw t (λ _. (e ∙ sym (letter_of_lem l), refl))) (λ f. rw f none_owns)
@@ -97,7 +97,7 @@ module _ (k : ℕ) (s m : List ℕ) (long : length m ≡ 16) where
   read r = record { letter = get_or (bytes r) 5 0; place = 0; copies = 0; message = field s 4 16 }
 
   by_report : (r : Report) → (r ≡ report.Nothing → OwnAction s (action_of s)) → shown_by (read r) (said (report_cells r)) m ≡ shown_by (action_of s) r m
-  unfolding cells_say if◌then◌else◌
+  unfolding cells_say when◌then◌else◌
   by_report report.Nothing own = rw (line_letter k (get_or s 0 0) m report.Nothing, (own refl).0, (own refl).1)
   by_report report.Delivered own = refl
   by_report report.Ok own = refl
@@ -154,7 +154,7 @@ module _ (input before : List ℕ) where
   fresh_ok = fresh_well_formed numbering is_message (fresh_numbers 0) (fresh_numbers 0) refl refl
 
   lines_shown : (rest : List ℕ) → (lines_show records (all ++ rest) ≡ all_shown_of (actions_in input before) told) × (length all ≡ 27 * length records)
-  unfolding fresh_outcomes bench_fresh bench_told if◌then◌else◌
+  unfolding fresh_outcomes bench_fresh bench_told when◌then◌else◌
   lines_shown rest = all_shown_lem 1 (fresh_rules j₀ i₀) fresh_ok records rest
 
   ran : list_run input before ≡ record { number = length all; output = all ++ drop (length all) before }

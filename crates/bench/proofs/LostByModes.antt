@@ -7,7 +7,7 @@ use native.Mathlib.Omega.{arith}
 use lib.Dec.{leb}
 use borrow.Author.Tests.{leb-true, leb-false, le-leb, lt-leb, le-ltb}
 use Rattle.ground.specs.Cell.{is_message, spaces}
-use Rattle.ground.specs.Choice.{if◌then◌else◌}
+use Rattle.ground.specs.Choice.{when◌then◌else◌}
 use Rattle.ground.specs.First.{refusal, first, applies}
 use Rattle.ground.proofs.Tests.{by_test}
 use Rattle.rules.specs.Offered.{Offer, offered}
@@ -33,12 +33,12 @@ use Rattle.bench.proofs.Tables.{left, held, taken_holds}
 
 -- ## The pieces
 
-pub report_absent : (n p : ℕ) → n ≤ p → ◌≡◌ {A = Report} (Refused 3) (if leb n p then Refused 3 else Nothing)
-unfolding if◌then◌else◌
+pub report_absent : (n p : ℕ) → n ≤ p → ◌≡◌ {A = Report} (Refused 3) (when leb n p then Refused 3 else Nothing)
+unfolding when◌then◌else◌
 report_absent n p h = rw (le-leb n p h)
 
-pub report_lost : (n p : ℕ) → p < n → ◌≡◌ {A = Report} Nothing (if leb n p then Refused 3 else Nothing)
-unfolding if◌then◌else◌
+pub report_lost : (n p : ℕ) → p < n → ◌≡◌ {A = Report} Nothing (when leb n p then Refused 3 else Nothing)
+unfolding when◌then◌else◌
 report_lost n p h = rw (lt-leb n p h)
 
 -- what a packet lost leaves, with a report and two counts
@@ -53,7 +53,7 @@ module _ (b : Modes) (o : Offered) (out back : List ℕ) (line : Line) (a : Acti
   bench = B b o out back line a
 
   end_is : end_number b o out back line a ≡ 0
-  unfolding rules.end_rules refusal first applies if◌then◌else◌
+  unfolding rules.end_rules refusal first applies when◌then◌else◌
   end_is = ap (λ (x : rules.Asked (List ℕ)). refusal (rules.end_rules offered is_message bench x)) w.asks
 
   silent : (flag : Bool) → (flag && false) ≡ false
@@ -98,7 +98,7 @@ module _ (b : Modes) (o : Offered) (out back : List ℕ) (line : Line) (a : Acti
       → (n ≡ count_taken true b.sent a.place) × (out' ≡ table_taken true out b.sent a.place)
       → r ≡ record { report = Nothing; message = spaces; console = Stay; controller = Stay; after = record { console = b.console; controller = b.controller; sent = n; returned = b.returned } }
       → told_as r o out' back ≡ modes_step b o out back line a
-  unfolding told_as modes_step shown_of modes_moved rules.taken_out left if◌then◌else◌
+  unfolding told_as modes_step shown_of modes_moved rules.taken_out left when◌then◌else◌
   out_lost {out' = out'} e h t q =
       let now_out = taken_holds to_controller_coded true a.place (out_held b out back k) t.0 t.1 in
       ap (λ (x : Told). told_as x o out' back) q
@@ -116,7 +116,7 @@ module _ (b : Modes) (o : Offered) (out back : List ℕ) (line : Line) (a : Acti
       → (n ≡ count_taken true b.returned a.place) × (back' ≡ table_taken true back b.returned a.place)
       → r ≡ record { report = Nothing; message = spaces; console = Stay; controller = Stay; after = record { console = b.console; controller = b.controller; sent = b.sent; returned = n } }
       → told_as r o out back' ≡ modes_step b o out back line a
-  unfolding told_as modes_step shown_of modes_moved rules.taken_out left if◌then◌else◌
+  unfolding told_as modes_step shown_of modes_moved rules.taken_out left when◌then◌else◌
   back_lost {back' = back'} e h t q =
       let now_back = taken_holds to_console_coded true a.place (back_held b out back k) t.0 t.1 in
       ap (λ (x : Told). told_as x o out back') q
@@ -132,9 +132,9 @@ module _ (b : Modes) (o : Offered) (out back : List ℕ) (line : Line) (a : Acti
 
   -- absent or lost, by one way
   pub out_loses : {out' : List ℕ} {r : Told} → line.takes ≡ takes.ToController
-      → (r ≡ lost b (if leb b.sent a.place then Refused 3 else Nothing) (count_taken true b.sent a.place) b.returned) × (out' ≡ table_taken true out b.sent a.place)
+      → (r ≡ lost b (when leb b.sent a.place then Refused 3 else Nothing) (count_taken true b.sent a.place) b.returned) × (out' ≡ table_taken true out b.sent a.place)
       → told_as r o out' back ≡ modes_step b o out back line a
-  unfolding count_taken table_taken if◌then◌else◌
+  unfolding count_taken table_taken when◌then◌else◌
   out_loses {r = r} e q =
       by_test (leb b.sent a.place)
       (λ t.
@@ -144,9 +144,9 @@ module _ (b : Modes) (o : Offered) (out back : List ℕ) (line : Line) (a : Acti
       (λ f. out_lost e (leb-false b.sent a.place f) (refl, q.1) (q.0 ∙ rw f))
 
   pub back_loses : {back' : List ℕ} {r : Told} → line.takes ≡ takes.ToConsole
-      → (r ≡ lost b (if leb b.returned a.place then Refused 3 else Nothing) b.sent (count_taken true b.returned a.place)) × (back' ≡ table_taken true back b.returned a.place)
+      → (r ≡ lost b (when leb b.returned a.place then Refused 3 else Nothing) b.sent (count_taken true b.returned a.place)) × (back' ≡ table_taken true back b.returned a.place)
       → told_as r o out back' ≡ modes_step b o out back line a
-  unfolding count_taken table_taken if◌then◌else◌
+  unfolding count_taken table_taken when◌then◌else◌
   back_loses {r = r} e q =
       by_test (leb b.returned a.place)
       (λ t.

@@ -5,7 +5,7 @@ use mathlib.Core.Bool.{Bool, true, ◌&&◌}
 use mathlib.Core.List.{List}
 use lib.Dec.{ltb}
 use Rattle.ground.specs.Cell.{spaces}
-use Rattle.ground.specs.Choice.{if◌then◌else◌}
+use Rattle.ground.specs.Choice.{when◌then◌else◌}
 use Rattle.rules.specs.Supply.{numbering}
 use Rattle.rules.specs.Offered.{moved}
 use Rattle.rules.specs.Reading.{reading}
@@ -41,7 +41,7 @@ numbering_offers : by.Offering numbering
 numbering_offers = record { next_given = next_given; next_number = numbering_lawful.next_number; fits = λ n h. h }
 
 after_so : (m : Move) (n : Numbers) → by.OfferedOne numbering (numbers_means n) m → numbers_means (numbers_moved m n) ≡ moved numbering (move_means m) (numbers_means n)
-unfolding moved numbers_taken if◌then◌else◌
+unfolding moved numbers_taken when◌then◌else◌
 after_so Stay n h = refl
 after_so Take n h = rw (h tt)
 after_so Back n h = refl

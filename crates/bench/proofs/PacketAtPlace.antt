@@ -8,7 +8,7 @@ use lib.Dec.{ltb}
 use lib.ListN.{length}
 use borrow.Author.Tests.{ltb-true, ltb-false, le-leb, lt-ltb, le-ltb}
 use Rattle.ground.specs.Cell.{spaces}
-use Rattle.ground.specs.Choice.{if◌then◌else◌}
+use Rattle.ground.specs.Choice.{when◌then◌else◌}
 use Rattle.ground.proofs.Lists.{split}
 use Rattle.ground.proofs.Tests.{by_test}
 use Rattle.wire.specs.declared.ReadHead.{ReadHead}
@@ -53,7 +53,7 @@ back_there ps k g h =
     ap (λ (r : ReadPacket). for_console (read_for_console r.head)) (packet_at_is to_console_coded ps k g s.found) ∙ console_own s.it ∙ sym s.found
 
 pub back_is : (ps : List ends.ToConsole) (t : List ℕ) (n k : ℕ) → Holds to_console_coded ps t n → for_console (came_back t n k).console ≡ rules.at ps k
-unfolding came_back if◌then◌else◌
+unfolding came_back when◌then◌else◌
 back_is ps t n k h =
     by_test (ltb k n)
     (λ y. rw y (ap (λ (x : List ℕ). for_console (read_for_console (packet_at x k).head)) h.table ∙ back_there ps k h.good (subst (λ (x : ℕ). k < x) h.number (ltb-true k n y))))
@@ -75,7 +75,7 @@ out_there ps k g h =
     ap (λ (r : ReadPacket). beside (heard r)) (packet_at_is to_controller_coded ps k g s.found) ∙ controller_own s.it ∙ sym s.found
 
 pub out_is : (ps : List (ends.ToController (List ℕ))) (t : List ℕ) (n k : ℕ) → Holds to_controller_coded ps t n → beside (came_out t n k) ≡ rules.at ps k
-unfolding came_out if◌then◌else◌
+unfolding came_out when◌then◌else◌
 out_is ps t n k h =
     by_test (ltb k n)
     (λ y. rw y (ap (λ (x : List ℕ). beside (heard (packet_at x k))) h.table ∙ out_there ps k h.good (subst (λ (x : ℕ). k < x) h.number (ltb-true k n y))))
@@ -85,19 +85,19 @@ out_is ps t n k h =
 
 module _ (t : List ℕ) (n k : ℕ) where
   pub back_none : {x : Came} → n ≤ k → x ≡ nothing_came → x ≡ came_back t n k
-  unfolding came_back if◌then◌else◌
+  unfolding came_back when◌then◌else◌
   back_none h q = rw (le-ltb k n h) q
 
   pub back_some : {h : ReadHead} {f : ForConsole} → k < n → h ≡ (packet_at t k).head → f ≡ read_for_console h → record { console = f; controller = for-controller.Nothing; message = spaces } ≡ came_back t n k
-  unfolding came_back if◌then◌else◌
+  unfolding came_back when◌then◌else◌
   back_some l e g = rw (lt-ltb k n l, g, e)
 
   pub out_none : {x : Came} → n ≤ k → x ≡ nothing_came → x ≡ came_out t n k
-  unfolding came_out if◌then◌else◌
+  unfolding came_out when◌then◌else◌
   out_none h q = rw (le-ltb k n h) q
 
   pub out_some : (p : ReadPacket) {f : ForController} → k < n → p ≡ packet_at t k → f ≡ read_for_controller p.head → record { console = for-console.Nothing; controller = f; message = p.message } ≡ came_out t n k
-  unfolding came_out if◌then◌else◌
+  unfolding came_out when◌then◌else◌
   out_some p l e g = rw (lt-ltb k n l, ← e, g)
 
 pub ruleset arrivals = (back_none, back_some, out_none, out_some)

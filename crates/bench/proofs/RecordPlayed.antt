@@ -7,7 +7,7 @@ use mathlib.Core.List.{List, []}
 use lib.ListN.{length, get_or}
 use borrow.Author.Tests.{eq-eqb}
 use Rattle.ground.specs.Cell.{is_message, spaces}
-use Rattle.ground.specs.Choice.{if◌then◌else◌}
+use Rattle.ground.specs.Choice.{when◌then◌else◌}
 use Rattle.ground.proofs.Tests.{by_test}
 use Rattle.listing.specs.Line.{line_written}
 use Rattle.listing.specs.Record.{list_record}
@@ -55,11 +55,11 @@ module _ (b : Loaded) (out back s : List ℕ) (k : Well b out back) where
   -- with the letter's line
   module _ (l : Line) {r : Fields} (e : r ≡ list_record (uses_of l) s) where
     pub line_refused : {t : Stepped} → r.fits ≡ false → t ≡ record { report = Refused 1; message = spaces; after = b } → stepped_as t out back ≡ line_step b out back l s
-    unfolding line_step if◌then◌else◌
+    unfolding line_step when◌then◌else◌
     line_refused f q = refused_1 q ∙ rw (← e, f)
 
     pub line_played : {w : ReadOutcome Numbers} → r.fits ≡ true → w ≡ loaded_step b out back l (action_with l r) → w ≡ line_step b out back l s
-    unfolding line_step step_with if◌then◌else◌
+    unfolding line_step step_with when◌then◌else◌
     line_played f q = q ∙ rw (← e, f)
 
   module _ {f : Found} (e : f ≡ found_of (letter (get_or s 0 0))) where
@@ -82,7 +82,7 @@ lined_found (some l) = (found_lined (some l) refl).1
 -- ## What is known afterwards
 
 outcome_ok : (f : Found) (s : List ℕ) (b : Loaded) (out back : List ℕ) → Well b out back → WellFormed numbering is_message (record_outcome f s b out back).after.history
-unfolding read_step if◌then◌else◌
+unfolding read_step when◌then◌else◌
 outcome_ok found.Nothing s b out back k = k.well_formed
 outcome_ok (found.Line l) s b out back k =
     let r = list_record (uses_of l) s in
@@ -121,7 +121,7 @@ module _ (b : Loaded) (out back : List ℕ) (k : Well b out back) where
   one = λ i. record { outcome = record { report = Refused 1; message = spaces; bench = sym same_bench i }; out = sym k.out_holds i; back = sym k.back_holds i }
 
   as_told : (f : Found) (s : List ℕ) → FoundLined f → bench_told (record_outcome f s b out back) ≡ played_as (action_as f s) (bench_of b) out back
-  unfolding bench_told bench_refused bench_step action_of line_of Lined if◌then◌else◌
+  unfolding bench_told bench_refused bench_step action_of line_of Lined when◌then◌else◌
   as_told found.Nothing s h = one
   as_told (found.Line l) s h =
       let e : letter l.byte ≡ some (letter_of l) = ap (λ (x : Line). letter x.byte) h ∙ letter_of_lem (letter_of l) in
@@ -143,7 +143,7 @@ module _ (b : Loaded) (out back : List ℕ) (k : Well b out back) where
 module _ {line cells : List ℕ} {cell : ℕ} (t : Stepped) (b : Loaded) (out back s : List ℕ) (number : ℕ) (out' back' before : List ℕ) where
   pub turned : Well b out back → length before ≡ 27 → stepped_as t out' back' ≡ record_step b out back s → cell ≡ letter_cell (get_or s 0 0) t.report → cells ≡ report_cells t.report
       → line ≡ line_written before number cell cells t.message → Played b out back s number t.after line out' back'
-  unfolding outcome_of line_written report_line if◌then◌else◌
+  unfolding outcome_of line_written report_line when◌then◌else◌
   turned k l h c d w =
       let same : record { outcome = outcome_of t; out = out'; back = back' } ≡ played (bench_of b) out back s = result_is b out back k s t out' back' h in
       record {

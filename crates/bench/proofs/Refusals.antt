@@ -6,7 +6,7 @@ use Prim.Native.Nat.{ℕ}
 use lib.Dec.{eqb}
 use lib.ListN.{length}
 use Rattle.ground.specs.Bytes.{Bytes}
-use Rattle.ground.specs.Choice.{if◌then◌else◌}
+use Rattle.ground.specs.Choice.{when◌then◌else◌}
 use Rattle.ground.proofs.Promise.{RefusalLeaves}
 use Rattle.ground.proofs.Tests.{by_test}
 use Rattle.wire.specs.declared.I.{I}
@@ -31,7 +31,7 @@ step_refusal_leaves κs a x s typed refused p =
     ap (λ (r : Result). (r.outcome.bench, r.out, r.back)) (p ∙ refused_same a.0 a.1.1.0.now a.1.1.1.0.now typed.0 typed.1 typed.2 a.1.0 (number_in x.report) e)
 
 fresh_left : (j : J) (i : I) (out back : List ℕ) → IsRefused (bench_fresh j i out back).outcome.report → ◌≡◌ {A = List ℕ × List ℕ} ((bench_fresh j i out back).out, (bench_fresh j i out back).back) (out, back)
-unfolding bench_fresh bench_told bench_refused if◌then◌else◌
+unfolding bench_fresh bench_told bench_refused when◌then◌else◌
 fresh_left j i out back =
     by_test (eqb (length out) 2048 && eqb (length back) 2048) (λ t r. absurd (rw t at r)) (λ f r. rw f)
 

@@ -9,7 +9,7 @@ use lib.Dec.{leb, ltb}
 use lib.ListN.{length, length-replicate}
 use borrow.Author.Tests.{le-leb, lt-leb, le-ltb, lt-ltb, leb-true, leb-false}
 use Rattle.ground.specs.Cell.{is_message, spaces}
-use Rattle.ground.specs.Choice.{if◌then◌else◌}
+use Rattle.ground.specs.Choice.{when◌then◌else◌}
 use Rattle.ground.specs.First.{refusal}
 use Rattle.ground.proofs.Tests.{by_test}
 use Rattle.wire.specs.declared.Packet.{Packet}
@@ -59,7 +59,7 @@ IsNone (some x) = ⊥
 -- 9: of nothing there is room; and what has no copies sends nothing
 pub exceed_is : {A : Type 0} (packet : A → Packet) (flag : Bool) (ps : List A) (n : ℕ) (o : Option A) → (flag ≡ false → o ≡ none) → length ps ≤ 64
     → (flag && rules.exceed ps n o) ≡ not (room_for (sent_of (map packet o)).any (length ps) n)
-unfolding rules.exceed rules.copies_of room_for if◌then◌else◌
+unfolding rules.exceed rules.copies_of room_for when◌then◌else◌
 exceed_is packet false ps n none q h = refl
 exceed_is packet true ps n none q h = le-ltb 64 (length ps + 0) (omega (arith, h))
 exceed_is packet false ps n (some p) q h = absurd (subst IsNone (sym (q refl)) tt)

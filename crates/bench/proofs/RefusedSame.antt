@@ -6,7 +6,7 @@ use mathlib.Core.Option.{Option, none, some}
 use mathlib.Core.List.{List}
 use Rattle.ground.specs.Bytes.{Bytes}
 use Rattle.ground.specs.Cell.{is_message, spaces}
-use Rattle.ground.specs.Choice.{if◌then◌else◌}
+use Rattle.ground.specs.Choice.{when◌then◌else◌}
 use Rattle.ground.proofs.Tests.{by_test}
 use Rattle.rules.specs.Supply.{numbering}
 use Rattle.rules.specs.Letters.{Letter, letter}
@@ -71,7 +71,7 @@ module _ (b : Bench) (out back : List ℕ) where
         (λ i. bench_told (read u b.console.ack (f i) (step_refused_same numbering is_message B a n f i))) ∙ same ok n
 
     of_letter : (l : Option Letter) (a : Action) (n : ℕ) → (step_of l b a out back).outcome.report ≡ report.Refused n → step_of l b a out back ≡ bench_refused n b out back
-    unfolding if◌then◌else◌
+    unfolding when◌then◌else◌
     of_letter none a n e = refused_early 1 n e
     of_letter (some l) a n e =
         by_test (bench_ok b out back)

@@ -6,7 +6,7 @@ use native.Mathlib.Omega.{arith}
 use borrow.Author.Tests.{eq-eqb, ne_eqb}
 use lib.ListN.{length, get_or}
 use Rattle.ground.specs.Bytes.{field}
-use Rattle.ground.specs.Choice.{if◌then◌else◌}
+use Rattle.ground.specs.Choice.{when◌then◌else◌}
 use Rattle.listing.specs.Line.{decimals, line_bytes}
 use Rattle.listing.proofs.LineWritten.{two_digits_are}
 use Rattle.listing.proofs.LineParts as parts
@@ -18,11 +18,11 @@ use Rattle.bench.specs.Reports.{letter_cell, report_cells, cells_say, report_lin
 
 module _ (r : Report) {n : ℕ} (e : r ≡ report.Refused n) where
   pub letter_1 : (letter : ℕ) → n ≡ 1 → 0x3F ≡ letter_cell letter r
-  unfolding if◌then◌else◌
+  unfolding when◌then◌else◌
   letter_1 letter h = rw (e, eq-eqb n 1 h)
 
   pub letter_other : (letter : ℕ) → (n ≡ 1 → ⊥) → letter ≡ letter_cell letter r
-  unfolding if◌then◌else◌
+  unfolding when◌then◌else◌
   letter_other letter h = rw (e, ne_eqb n 1 h)
 
   pub refusal_cells : {x : List ℕ} → x ≡ decimals 2 n → x ≡ report_cells r
@@ -37,7 +37,7 @@ said c = cells_say (get_or c 0 0) (get_or c 1 0)
 
 -- a digit is no cell of the four words
 pub refusal_said : (n : ℕ) → said (decimals 2 n) ≡ report.Refused (n % 100)
-unfolding cells_say if◌then◌else◌
+unfolding cells_say when◌then◌else◌
 refusal_said n =
     let x = 0x30 + n / 10 % 10 in
     let y = 0x30 + n % 10 in
@@ -53,7 +53,7 @@ TwoDigits report.Lost = Unit {0}
 TwoDigits (report.Refused n) = n < 100
 
 pub report_said : (r : Report) → TwoDigits r → said (report_cells r) ≡ r
-unfolding cells_say if◌then◌else◌
+unfolding cells_say when◌then◌else◌
 report_said report.Nothing h = refl
 report_said report.Delivered h = refl
 report_said report.Ok h = refl

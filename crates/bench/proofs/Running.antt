@@ -8,7 +8,7 @@ use lib.Dec.{ltb}
 use lib.ListN.{length, get_or, take, drop, replicate, length-drop, length-append, take-append-drop, drop_of_length-le}
 use lib.Seq.{length-take-le, take_all, take_at, drop_at, drop-drop}
 use borrow.Author.Tests.{lt-ltb, le-ltb, ltb-true, ltb-false}
-use Rattle.ground.specs.Choice.{if◌then◌else◌}
+use Rattle.ground.specs.Choice.{when◌then◌else◌}
 use Rattle.ground.proofs.Tests.{by_test}
 use Rattle.ground.specs.Cell.{is_message}
 use Rattle.rules.specs.Supply.{numbering, fresh_numbers}
@@ -42,7 +42,7 @@ records_none (suc m) = refl
 
 -- the record that begins at a place
 pub record_is : (s : List ℕ) (start : ℕ) {end : ℕ} → start < length s → end ≡ record_end start (length s) → part s start end ≡ take 21 (drop start s)
-unfolding record_end if◌then◌else◌
+unfolding record_end when◌then◌else◌
 record_is s start h e =
     let l = length-drop start s in
     by_test (ltb (length s) (start + 21))
@@ -67,17 +67,17 @@ line_long output n limit room h r l = part_length output (n * 27) (n * 27 + 27) 
 -- ## The limit
 
 pub limit_most : (room : ℕ) → 9999 < room / 27 → 9999 ≡ limit_of room
-unfolding limit_of if◌then◌else◌
+unfolding limit_of when◌then◌else◌
 limit_most room h = rw (lt-ltb 9999 (room / 27) h)
 
 pub limit_room : (room : ℕ) → room / 27 ≤ 9999 → room / 27 ≡ limit_of room
-unfolding limit_of if◌then◌else◌
+unfolding limit_of when◌then◌else◌
 limit_room room h = rw (le-ltb 9999 (room / 27) h)
 
 pub ruleset limits = (limit_most, limit_room)
 
 pub limit_fits : (room : ℕ) → (limit_of room * 27 ≤ room) × (limit_of room ≤ 9999)
-unfolding limit_of if◌then◌else◌
+unfolding limit_of when◌then◌else◌
 limit_fits room =
     by_test (ltb 9999 (room / 27)) (λ y. let k = ltb-true 9999 (room / 27) y in rw y (omega (arith, k), omega arith))
     (λ n. let k = ltb-false 9999 (room / 27) n in rw n (omega (arith, k), omega (arith, k)))
@@ -205,5 +205,5 @@ ran_prefix input before after {n} h = sym (length-take-le n after (ran_fits inpu
 
 -- with room for 9,999 lines it is the whole output of the list program
 pub whole_list : (s : List ℕ) → list_lines (limit_of 269_973) s ≡ list_output s
-unfolding limit_of list_output if◌then◌else◌
+unfolding limit_of list_output when◌then◌else◌
 whole_list s = refl

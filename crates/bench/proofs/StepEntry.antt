@@ -7,7 +7,7 @@ use mathlib.Core.List.{List}
 use lib.ListN.{length, replicate}
 use borrow.Author.Tests.{eq-eqb, ne_eqb, not-true, not-false}
 use Rattle.ground.specs.Cell.{is_message, spaces}
-use Rattle.ground.specs.Choice.{if◌then◌else◌}
+use Rattle.ground.specs.Choice.{when◌then◌else◌}
 use Rattle.wire.specs.declared.I.{I}
 use Rattle.wire.specs.declared.J.{J}
 use Rattle.rules.specs.Supply.{numbering, Numbers}
@@ -80,7 +80,7 @@ abbrev refusing : ℕ → Bench → Outcome
 refusing n b = record { report = Refused n; message = spaces; bench = b }
 
 ill_so : {r : Outcome} (b : Bench) (line : Line) (a : Action) (out back : List ℕ) → bench_ok b out back ≡ false → r ≡ refusing 2 b → record { outcome = r; out = out; back = back } ≡ lined_step b line a out back
-unfolding lined_step bench_refused if◌then◌else◌
+unfolding lined_step bench_refused when◌then◌else◌
 ill_so b line a out back f q = (λ i. record { outcome = q i; out = out; back = back }) ∙ rw f
 
 module _ {read : ConsoleRead} (b : Bench) (e : read ≡ console_read b.console) where
@@ -119,7 +119,7 @@ module _ (b : Bench) (line : Line) (a : Action) (out back : List ℕ) {e : conso
 
   pub ends_step : {l : Loaded} (w : Stepped) {x : Outcome} {out' back' : List ℕ} → not ok ≡ false → l ≡ loaded_of e b.console.ack b.console.message f b.sent b.returned → stepped_as w out' back' ≡ loaded_step l out back line a
       → x ≡ outcome_of w → record { outcome = x; out = out'; back = back' } ≡ lined_step b line a out back
-  unfolding lined_step step_with action_of if◌then◌else◌
+  unfolding lined_step step_with action_of when◌then◌else◌
   ends_step {l} w {x} {out'} {back'} n g h q =
       (λ j. record { outcome = q j; out = out'; back = back' })
       ∙ told_so w out' back' (read_step numbering is_message (bench_reads b out back) (action_of line a))
@@ -158,7 +158,7 @@ module _ {c : Console} {d : Controller} (j : J) (i : I) (out back : List ℕ) (e
 
   pub fresh_out_ill : {r : Outcome} → (length out ≡ 2048 → ⊥) → r ≡ record { report = Refused 2; message = spaces; bench = record { console = c; controller = d; sent = 0; returned = 0 } }
       → record { outcome = r; out = out; back = back } ≡ bench_fresh j i out back
-  unfolding bench_fresh bench_refused if◌then◌else◌
+  unfolding bench_fresh bench_refused when◌then◌else◌
   fresh_out_ill n q =
       (λ k. record { outcome = q k; out = out; back = back })
       ∙ (λ k. record { outcome = record { report = Refused 2; message = spaces; bench = bench_is k }; out = out; back = back })
@@ -166,7 +166,7 @@ module _ {c : Console} {d : Controller} (j : J) (i : I) (out back : List ℕ) (e
 
   pub fresh_back_ill : {r : Outcome} → length out ≡ 2048 → (length back ≡ 2048 → ⊥) → r ≡ record { report = Refused 2; message = spaces; bench = record { console = c; controller = d; sent = 0; returned = 0 } }
       → record { outcome = r; out = out; back = back } ≡ bench_fresh j i out back
-  unfolding bench_fresh bench_refused if◌then◌else◌
+  unfolding bench_fresh bench_refused when◌then◌else◌
   fresh_back_ill m n q =
       (λ k. record { outcome = q k; out = out; back = back })
       ∙ (λ k. record { outcome = record { report = Refused 2; message = spaces; bench = bench_is k }; out = out; back = back })
@@ -174,7 +174,7 @@ module _ {c : Console} {d : Controller} (j : J) (i : I) (out back : List ℕ) (e
 
   pub fresh_does : {out' back' : List ℕ} → length out ≡ 2048 → length back ≡ 2048 → out' ≡ replicate (length out) 0 → back' ≡ replicate (length back) 0
       → record { outcome = record { report = Nothing; message = spaces; bench = record { console = c; controller = d; sent = 0; returned = 0 } }; out = out'; back = back' } ≡ bench_fresh j i out back
-  unfolding bench_fresh bench_told rules.fresh if◌then◌else◌
+  unfolding bench_fresh bench_told rules.fresh when◌then◌else◌
   fresh_does m n p q =
       (λ k.
       record {

@@ -8,7 +8,7 @@ use native.Mathlib.Omega.{arith}
 use lib.Dec.{ltb}
 use lib.ListN.{length, replicate, length-append, length-replicate}
 use borrow.Author.Tests.{ltb-true, ltb-false, leb-true}
-use Rattle.ground.specs.Choice.{if◌then◌else◌}
+use Rattle.ground.specs.Choice.{when◌then◌else◌}
 use Rattle.ground.proofs.Lists.{split, without_beyond}
 use Rattle.ground.proofs.Tests.{by_test}
 use Rattle.wire.specs.declared.Direction.{Direction}
@@ -23,7 +23,7 @@ use Rattle.bench.specs.declared.traffic.Sent.{Sent}
 
 -- the packets that are left
 unfoldable pub left : {A : Type 0} → Bool → List A → ℕ → List A
-left uses ps k = if uses then without ps k else ps
+left uses ps k = when uses then without ps k else ps
 
 module _ {A : Type 0} where
   one_less : (ps : List A) (k : ℕ) → k < length ps → length ps - 1 ≡ length (without ps k)
@@ -36,7 +36,7 @@ module _ {A : Type 0} where
       omega (arith, a, b, c, d)
 
   count_left : (uses : Bool) (ps : List A) (k : ℕ) → count_taken uses (length ps) k ≡ length (left uses ps k)
-  unfolding count_taken left if◌then◌else◌
+  unfolding count_taken left when◌then◌else◌
   count_left false ps k = refl
   count_left true ps k =
       by_test (ltb k (length ps)) (λ y. rw y (one_less ps k (ltb-true k (length ps) y)))
@@ -54,7 +54,7 @@ module _ {A : Type 0} {dir : Direction} {packet : A → Packet} {bytes : A → L
   held {ps} h = (λ i. packets reads (h.number i) (h.table i)) ∙ packets_channel code ps h.good
 
   taken_there : (uses : Bool) (ps : List A) (k : ℕ) → All Ok ps → length ps ≤ 64 → table_taken uses (channel bytes ps) (length ps) k ≡ channel bytes (left uses ps k)
-  unfolding table_taken left if◌then◌else◌
+  unfolding table_taken left when◌then◌else◌
   taken_there false ps k g r = refl
   taken_there true ps k g r =
       by_test (ltb k (length ps)) (λ y. rw y (taken_is code ps k g r))
@@ -67,7 +67,7 @@ module _ {A : Type 0} {dir : Direction} {packet : A → Packet} {bytes : A → L
 
   sent_there : (ps : List A) (n : ℕ) (o : Option A) → All Ok ps → Opt Ok o → length (ps ++ copies_of n o) ≤ 64
       → table_sent (sent_of (map packet o)) (channel bytes ps) (length ps) n ≡ channel bytes (ps ++ copies_of n o)
-  unfolding table_sent copies_of if◌then◌else◌
+  unfolding table_sent copies_of when◌then◌else◌
   sent_there ps n none g k r = ap (channel bytes) (sym (append-nil ps))
   sent_there ps n (some p) g k r =
       let a = length-append ps (replicate n p) in
@@ -75,7 +75,7 @@ module _ {A : Type 0} {dir : Direction} {packet : A → Packet} {bytes : A → L
       added_is code ps n p g k (omega (arith, a, b, r))
 
   count_there : (ps : List A) (n : ℕ) (o : Option A) → count_sent (sent_of (map packet o)).any (length ps) n ≡ length (ps ++ copies_of n o)
-  unfolding count_sent copies_of if◌then◌else◌
+  unfolding count_sent copies_of when◌then◌else◌
   count_there ps n none = ap length (sym (append-nil ps))
   count_there ps n (some p) = sym (length-append ps (replicate n p) ∙ ap (λ (m : ℕ). length ps + m) (length-replicate n p))
 
@@ -87,12 +87,12 @@ module _ {A : Type 0} {dir : Direction} {packet : A → Packet} {bytes : A → L
   -- ## What the table holds then
 
   all_left : (uses : Bool) (ps : List A) (k : ℕ) → All Ok ps → All Ok (left uses ps k)
-  unfolding left if◌then◌else◌
+  unfolding left when◌then◌else◌
   all_left false ps k g = g
   all_left true ps k g = all_without Ok ps k g
 
   fewer : (uses : Bool) (ps : List A) (k : ℕ) → length (left uses ps k) ≤ length ps
-  unfolding left if◌then◌else◌
+  unfolding left when◌then◌else◌
   fewer false ps k = omega arith
   fewer true ps k =
       by_test (ltb k (length ps)) (λ y. let h = one_less ps k (ltb-true k (length ps) y) in omega (arith, h))
@@ -105,7 +105,7 @@ module _ {A : Type 0} {dir : Direction} {packet : A → Packet} {bytes : A → L
       record { table = f ∙ (taking uses k h).0; number = e ∙ (taking uses k h).1; good = all_left uses ps k h.good; room = omega (arith, r, m) }
 
   room_left : (ps : List A) (n : ℕ) (o : Option A) (count : ℕ) → count ≡ length ps → length ps ≤ 64 → room_for (sent_of (map packet o)).any count n ≡ true → length (ps ++ copies_of n o) ≤ 64
-  unfolding room_for copies_of if◌then◌else◌
+  unfolding room_for copies_of when◌then◌else◌
   room_left ps n none count e m r = let h = ap length (append-nil ps) in omega (arith, h, m)
   room_left ps n (some p) count e m r =
       let h = length-append ps (replicate n p) in

@@ -5,7 +5,7 @@ use mathlib.Core.Bool.{true, false}
 use mathlib.Core.List.{List, [], ◌∷◌, ◌++◌, map}
 use lib.ListN.{replicate}
 use Rattle.ground.specs.Cell.{cells, is_message, spaces}
-use Rattle.ground.specs.Choice.{if◌then◌else◌}
+use Rattle.ground.specs.Choice.{when◌then◌else◌}
 use Rattle.ground.specs.Every.{filled}
 use Rattle.wire.specs.Number.{bytes_of, value}
 use Rattle.wire.specs.Packet.{is_blank, packet_bytes, head_of, head_at, read_refusal, packet_read}
@@ -35,7 +35,7 @@ use Rattle.bench.specs.declared.Bench.{Bench}
 unfoldable pub computes : Unit {0}
 unfolding bench_step bench_fresh bench_refused bench_told bench_back bench_means bench_ok console_ok console_mode controller_ok controller_mode table_ok
     heads_pass packets channel laid to_controller_bytes to_controller_read to_console_bytes to_console_read packet_bytes packet_read read_refusal head_at head_of
-    value bytes_of is_blank is_message cells filled letters among letter rules.rules readings numbers_rules if◌then◌else◌
+    value bytes_of is_blank is_message cells filled letters among letter rules.rules readings numbers_rules when◌then◌else◌
 computes = tt
 
 -- ## Benches and actions

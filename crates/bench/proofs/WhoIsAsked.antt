@@ -6,7 +6,7 @@ use mathlib.Core.Option.{Option}
 use mathlib.Core.List.{List, [], ◌∷◌}
 use lib.Dec.{eqb, ltb}
 use borrow.Author.Tests.{eqb-true}
-use Rattle.ground.specs.Choice.{if◌then◌else◌}
+use Rattle.ground.specs.Choice.{when◌then◌else◌}
 use Rattle.ground.specs.First.{refusal, first, applies}
 use Rattle.ground.proofs.Tests.{by_test}
 use Rattle.rules.specs.Letters as letters
@@ -35,7 +35,7 @@ use Rattle.bench.proofs.RefusedByModes.{out_held, back_held}
 -- ## 7
 
 staged_0 : (n : ℕ) → n ≡ staged_7 n false
-unfolding if◌then◌else◌
+unfolding when◌then◌else◌
 staged_0 n = by_test (eqb n 0) (λ t. rw t (eqb-true n 0 t)) (λ f. rw f)
 
 -- of what is not a packet for the controller nothing is unknown
@@ -47,7 +47,7 @@ abbrev taking : Bool → Bool → ℕ
 taking up unknown = refusal (ends.down_4 up ∷ (7, unknown) ∷ [])
 
 taking_7 : (up u : Bool) → taking up u ≡ staged_7 (taking up false) u
-unfolding refusal first applies if◌then◌else◌
+unfolding refusal first applies when◌then◌else◌
 taking_7 true true = refl
 taking_7 true false = refl
 taking_7 false true = refl
@@ -85,7 +85,7 @@ module _ (b : Modes) (o : Offered) (out back : List ℕ) (a : Action) (k : Known
   loud l t f = absurd (true≢false (sym t ∙ f))
 
   by_letter : (l : letters.Letter) → FewOf l → Unknown (came_to l) → Offers o.j.0 → Offers o.i.0 → Relied (line_of l) (came_to l) (line_of l).asks
-  unfolding Lined line_of letters.line rules.asks rules.takes if◌then◌else◌ ends.console_acts ends.console_turn ends.controller_acts ends.controller_turn ends.controller_rules modes_moved
+  unfolding Lined line_of letters.line rules.asks rules.takes when◌then◌else◌ ends.console_acts ends.console_turn ends.controller_acts ends.controller_turn ends.controller_rules modes_moved
   by_letter letters.p_put f u oj oi = record { begun = record { lined = refl; few = f }; offers = oj; asks = refl; takes = refl; message = refl; silent = λ _ e. puts_sends _ _ _ }
   by_letter letters.q_need f u oj oi = record { begun = record { lined = refl; few = f }; offers = oj; asks = refl; takes = refl; message = refl; silent = λ t. loud letters.q_need refl t }
   by_letter letters.d_data f u oj oi = record { begun = record { lined = refl; few = f }; offers = oj; asks = refl; takes = refl; message = refl; silent = λ t. loud letters.d_data refl t }

@@ -11,7 +11,7 @@ use contract.Lifetimes.{Lfts}
 use borrow.Fn.Kinds.{Dens, ended_of}
 use denote.Triple.Clauses.{AtExit}
 use Rattle.ground.specs.Cell.{spaces}
-use Rattle.ground.specs.Choice.{if◌then◌else◌}
+use Rattle.ground.specs.Choice.{when◌then◌else◌}
 use Rattle.ground.proofs.Promise.{RulesOut}
 use Rattle.wire.specs.declared.I.{I}
 use Rattle.wire.specs.declared.J.{J}
@@ -97,7 +97,7 @@ module _ (κs : Lfts 2) (a : Dens κs step-kinds.ps) (x : Outcome) (s : AtExit (
 -- ## Fresh: with tables of 2,048 bytes
 
 fresh_clears : (j : J) (i : I) (out back : List ℕ) → length out ≡ 2048 → length back ≡ 2048 → ((bench_fresh j i out back).outcome.report ≡ report.Nothing) × ((bench_fresh j i out back).out ≡ clear) × ((bench_fresh j i out back).back ≡ clear)
-unfolding bench_fresh bench_told rules.fresh channel laid if◌then◌else◌
+unfolding bench_fresh bench_told rules.fresh channel laid when◌then◌else◌
 fresh_clears j i out back m n = rw (eq-eqb (length out) 2048 m, eq-eqb (length back) 2048 n) (refl, refl, refl)
 
 module _ (κs : Lfts 2) (a : Dens κs fresh-kinds.ps) (x : Outcome) (s : AtExit (ended_of 2 fresh-kinds.ps fresh-kinds.r) κs) (out_long : length a.1.1.0.now ≡ 2048) (back_long : length a.1.1.1.0.now ≡ 2048) (meets : fresh.Post κs a x s) where

@@ -1,6 +1,6 @@
 -- The packet at the place, read for the end that takes it. Nothing of it stands in the promise of an entry. Assumes nothing.
 use Rattle.std.specs.Prelude.{ℕ, List, ltb}
-use Rattle.ground.specs.Choice.{if◌then◌else◌}
+use Rattle.ground.specs.Choice.{when◌then◌else◌}
 use Rattle.ground.specs.Cell.{spaces}
 use Rattle.wire.specs.declared.ReadPacket.{ReadPacket}
 use Rattle.letters.specs.declared.Asks.{Asks}
@@ -19,7 +19,7 @@ nothing_came = record { console = for-console.Nothing; controller = for-controll
 -- if the place is below the count
 unfoldable pub came_back : List ℕ → ℕ → ℕ → Came
 came_back back returned place =
-    if ltb place returned
+    when ltb place returned
     then record { console = read_for_console (packet_at back place).head; controller = for-controller.Nothing; message = spaces }
     else nothing_came
 
@@ -27,7 +27,7 @@ abbrev pub heard : ReadPacket → Came
 heard p = record { console = for-console.Nothing; controller = read_for_controller p.head; message = p.message }
 
 unfoldable pub came_out : List ℕ → ℕ → ℕ → Came
-came_out out sent place = if ltb place sent then heard (packet_at out place) else nothing_came
+came_out out sent place = when ltb place sent then heard (packet_at out place) else nothing_came
 
 -- only an end that takes a packet is given one
 abbrev pub came_for : Asks → List ℕ → ℕ → List ℕ → ℕ → ℕ → Came

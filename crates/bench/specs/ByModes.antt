@@ -2,7 +2,7 @@
 -- promise of an entry. Assumes nothing.
 use Rattle.std.specs.Prelude.{ℕ, ◌≤◌, ◌≡◌, Bool, true, false, not, ◌&&◌, List, eqb, leb, ltb, length}
 use Rattle.std.proofs.Math.Option.{none, some}
-use Rattle.ground.specs.Choice.{if◌then◌else◌}
+use Rattle.ground.specs.Choice.{when◌then◌else◌}
 use Rattle.ground.specs.Cell.{is_message}
 use Rattle.ground.specs.First.{refusal}
 use Rattle.rules.specs.Bears.{ConsoleBears, ControllerBears}
@@ -144,7 +144,7 @@ pub record Few (line : Line) (a : Action) : Type 0 where
 
 -- 7 comes where nothing else of the controller's does
 abbrev pub staged_7 : ℕ → Bool → ℕ
-staged_7 n unknown = if eqb n 0 then (if unknown then 7 else 0) else n
+staged_7 n unknown = when eqb n 0 then (when unknown then 7 else 0) else n
 
 -- the same end, to which every number is known
 abbrev pub all_known : ends.Controller Offer → ends.Controller Offer
@@ -159,7 +159,7 @@ module _ (b : Modes) (o : Offered) (out back : List ℕ) (line : Line) (a : Acti
     pub begun : Few line a
     pub offers : Offers o.j.0
     pub asks : asks_of ≡ rules.Asked.console (in_console_act (λ _. a.message) (console.asked_to ask came.console))
-    pub takes : rules.takes (letter_of line) ≡ (if line.place then rules.from_to_console else rules.from_neither)
+    pub takes : rules.takes (letter_of line) ≡ (when line.place then rules.from_to_console else rules.from_neither)
     pub message : line.message ≡ puts ask
     pub silent : line.copies ≡ false → (e : ends.Console Offer (List ℕ)) → (ends.console_acts offered e (in_console_act (λ _. a.message) (console.asked_to ask came.console))).sent ≡ none
 
@@ -175,7 +175,7 @@ module _ (b : Modes) (o : Offered) (out back : List ℕ) (line : Line) (a : Acti
     pub begun : Few line a
     pub offers : Offers o.i.0
     pub asks : asks_of ≡ rules.Asked.controller (in_controller_act (λ _. came.message) (controller.asked_to ask came.controller))
-    pub takes : rules.takes (letter_of line) ≡ (if line.place then rules.from_to_controller else rules.from_neither)
+    pub takes : rules.takes (letter_of line) ≡ (when line.place then rules.from_to_controller else rules.from_neither)
     pub silent : line.copies ≡ false → (e : ends.Controller Offer) → (ends.controller_acts offered e (in_controller_act (λ _. came.message) (controller.asked_to ask came.controller))).sent ≡ none
     pub seven : (e : ends.Controller Offer) → e.numbers.known ≡ not o.unknown
         → refusal (ends.controller_rules offered e (controller.asked_to ask came.controller))

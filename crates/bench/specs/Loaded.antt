@@ -2,7 +2,7 @@
 -- promise of an entry. Assumes nothing.
 use Rattle.std.specs.Prelude.{ℕ, ◌<◌, ◌^◌, ◌≡◌, Bool, true, false, List, length, get_or}
 use Rattle.std.proofs.Math.Option.{some}
-use Rattle.ground.specs.Choice.{if◌then◌else◌}
+use Rattle.ground.specs.Choice.{when◌then◌else◌}
 use Rattle.ground.specs.Cell.{is_message, spaces}
 use Rattle.rules.specs.Supply as supply
 use Rattle.rules.specs.Supply.{numbering}
@@ -122,7 +122,7 @@ FoundLined (found.Line l) = Lined l
 -- a record that is not well formed is 1
 abbrev pub fields_outcome : Line → Fields → Loaded → List ℕ → List ℕ → Read (rules.Bench supply.Numbers (List ℕ)) (List ℕ)
 fields_outcome l r b out back =
-    if r.fits then read_step numbering is_message (loaded_reads b out back) (action_of l (action_with l r))
+    when r.fits then read_step numbering is_message (loaded_reads b out back) (action_of l (action_with l r))
     else record { report = ends.refused 1; after = loaded_reads b out back }
 
 -- and so is one whose letter is no action's

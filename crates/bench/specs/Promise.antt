@@ -1,7 +1,7 @@
 -- What the bench promises: the outcome and both tables afterwards, for every input. Assumes nothing.
 use Rattle.std.specs.Prelude.{ℕ, ◌&&◌, List, length, eqb}
 use Rattle.std.proofs.Math.Option.{Option, none, some}
-use Rattle.ground.specs.Choice.{if◌then◌else◌}
+use Rattle.ground.specs.Choice.{when◌then◌else◌}
 use Rattle.ground.specs.Cell.{is_message, spaces}
 use Rattle.wire.specs.declared.I.{I}
 use Rattle.wire.specs.declared.J.{J}
@@ -43,7 +43,7 @@ bench_told o =
 abbrev pub step_of : Option Letter → Bench → Action → List ℕ → List ℕ → Result
 step_of none b a out back = bench_refused 1 b out back
 step_of (some l) b a out back =
-    if bench_ok b out back
+    when bench_ok b out back
     then bench_told (read_step numbering is_message (bench_reads b out back) (rules.action l a.place a.copies a.message))
     else bench_refused 2 b out back
 
@@ -57,6 +57,6 @@ fresh_rules j i = fresh_reading (fresh_numbers j.0) (fresh_numbers i.0)
 
 unfoldable pub bench_fresh : J → I → List ℕ → List ℕ → Result
 bench_fresh j i out back =
-    if eqb (length out) 2048 && eqb (length back) 2048
+    when eqb (length out) 2048 && eqb (length back) 2048
     then bench_told (record { report = nothing; after = fresh_rules j i })
     else bench_refused 2 (bench_back (fresh_rules j i)) out back

@@ -1,6 +1,6 @@
 -- A report of this link in a line of the list program. Assumes nothing.
 use Rattle.std.specs.Prelude.{ℕ, ◌+◌, ◌-◌, ◌*◌, ◌&&◌, List, [], ◌∷◌, eqb}
-use Rattle.ground.specs.Choice.{if◌then◌else◌}
+use Rattle.ground.specs.Choice.{when◌then◌else◌}
 use Rattle.listing.specs.Line.{decimals, line_bytes}
 use Rattle.ends.specs.declared.Report.{Report}
 use Rattle.ends.specs.declared.Report.TheVariants as report
@@ -11,7 +11,7 @@ letter_cell letter report.Nothing = letter
 letter_cell letter report.Delivered = letter
 letter_cell letter report.Ok = letter
 letter_cell letter report.Lost = letter
-letter_cell letter (report.Refused n) = if eqb n 1 then 0x3F else letter
+letter_cell letter (report.Refused n) = when eqb n 1 then 0x3F else letter
 
 -- DL, OK, LO (answer lost), -- (nothing to report) or the refusal number
 abbrev pub report_cells : Report → List ℕ
@@ -24,10 +24,10 @@ report_cells (report.Refused n) = decimals 2 n
 -- the report that two cells say; what is none of the four words is a refusal's number
 unfoldable pub cells_say : ℕ → ℕ → Report
 cells_say x y =
-    if eqb x 0x44 && eqb y 0x4C then report.Delivered
-    else if eqb x 0x4F && eqb y 0x4B then report.Ok
-    else if eqb x 0x4C && eqb y 0x4F then report.Lost
-    else if eqb x 0x2D && eqb y 0x2D then report.Nothing
+    when eqb x 0x44 && eqb y 0x4C then report.Delivered
+    else when eqb x 0x4F && eqb y 0x4B then report.Ok
+    else when eqb x 0x4C && eqb y 0x4F then report.Lost
+    else when eqb x 0x2D && eqb y 0x2D then report.Nothing
     else report.Refused (10 * (x - 0x30) + (y - 0x30))
 
 -- the line of a record with this number and letter, whose step gave this report and message

@@ -1,7 +1,7 @@
 -- The list program: its records, the step at every record, and a line for each. Assumes nothing.
 use Rattle.std.specs.Prelude.{ℕ, zero, suc, ◌/◌, List, [], ◌∷◌, ◌++◌, ltb, length, get_or, take, drop, replicate}
 use Rattle.std.proofs.Math.Option.{Option, none, some}
-use Rattle.ground.specs.Choice.{if◌then◌else◌}
+use Rattle.ground.specs.Choice.{when◌then◌else◌}
 use Rattle.rules.specs.Letters.{letter}
 use Rattle.letters.specs.Lines.{found_of}
 use Rattle.letters.specs.declared.Found.{Found}
@@ -32,7 +32,7 @@ action_with l r = record { letter = l.byte; place = r.place; copies = r.copies; 
 -- the action that a record is: none if no action has its letter, or if it is not well formed
 abbrev pub action_as : Found → List ℕ → Option Action
 action_as found.Nothing s = none
-action_as (found.Line l) s = let r = list_record (uses_of l) s in if r.fits then some (action_with l r) else none
+action_as (found.Line l) s = let r = list_record (uses_of l) s in when r.fits then some (action_with l r) else none
 
 unfoldable pub list_action : List ℕ → Option Action
 list_action s = action_as (found_of (letter (get_or s 0 0))) s
@@ -54,7 +54,7 @@ lines k b out back (s ∷ ss) =
 
 -- at most 9,999 records are read; and no more than there is room for lines of 27 bytes
 unfoldable pub limit_of : ℕ → ℕ
-limit_of room = if ltb 9999 (room / 27) then 9999 else room / 27
+limit_of room = when ltb 9999 (room / 27) then 9999 else room / 27
 
 -- the bench starts fresh with 0 and 0
 unfoldable pub list_lines : ℕ → List ℕ → List ℕ

@@ -1,7 +1,7 @@
 -- What the private functions promise of what goes into and out of a table. Nothing of it stands in the promise of an entry. Assumes nothing.
 use Rattle.std.specs.Prelude.{ℕ, ◌+◌, ◌-◌, Bool, true, false, ◌&&◌, List, leb, ltb}
 use Rattle.std.proofs.Math.Option.{Option, none, some}
-use Rattle.ground.specs.Choice.{if◌then◌else◌}
+use Rattle.ground.specs.Choice.{when◌then◌else◌}
 use Rattle.wire.specs.declared.Head.TheVariants.{NeedI}
 use Rattle.wire.specs.declared.Packet.{Packet}
 use Rattle.ends.specs.Packets.{zeros}
@@ -16,16 +16,16 @@ sent_of (some p) = record { any = true; packet = p }
 
 -- is there room for the copies? Of nothing there always is
 unfoldable pub room_for : Bool → ℕ → ℕ → Bool
-room_for any count copies = if any then leb (count + copies) 64 else true
+room_for any count copies = when any then leb (count + copies) 64 else true
 
 unfoldable pub count_sent : Bool → ℕ → ℕ → ℕ
-count_sent any count copies = if any then count + copies else count
+count_sent any count copies = when any then count + copies else count
 
 unfoldable pub table_sent : Sent → List ℕ → ℕ → ℕ → List ℕ
-table_sent sent t count copies = if sent.any then added t count copies sent.packet else t
+table_sent sent t count copies = when sent.any then added t count copies sent.packet else t
 
 unfoldable pub count_taken : Bool → ℕ → ℕ → ℕ
-count_taken uses count place = if uses && ltb place count then count - 1 else count
+count_taken uses count place = when uses && ltb place count then count - 1 else count
 
 unfoldable pub table_taken : Bool → List ℕ → ℕ → ℕ → List ℕ
-table_taken uses t count place = if uses && ltb place count then taken_out t count place else t
+table_taken uses t count place = when uses && ltb place count then taken_out t count place else t

@@ -2,7 +2,7 @@
 // and what became of them handed back, so that nothing here knows where numbers come from.
 ghost use Rattle.std.specs.Prelude.{◌≡◌, true, ◌&&◌, leb};
 ghost use Rattle.ground.specs.Cell.{spaces, is_message};
-ghost use Rattle.ground.specs.Choice.{if◌then◌else◌};
+ghost use Rattle.ground.specs.Choice.{when◌then◌else◌};
 ghost use Rattle.bench.specs.Traffic.{count_taken, table_taken};
 ghost use Rattle.bench.specs.ByModes.{Known, told_as, modes_step, OnConsole, OnController, OnLosing, ConsoleReady, ControllerReady};
 
@@ -76,7 +76,7 @@ fn no_place(uses: bool, count: usize, place: usize) -> bool
 
 // The cells of a message are looked at by a letter that uses it.
 fn is_good(uses: bool, message: [u8; 16]) -> bool
-    ensures { result ≡ (if uses then is_message message else true) }
+    ensures { result ≡ (when uses then is_message message else true) }
 {
     if uses {
         ground::is_message(&message)
@@ -86,7 +86,7 @@ fn is_good(uses: bool, message: [u8; 16]) -> bool
 }
 
 fn keeps(uses: bool, message: [u8; 16], held: [u8; 16]) -> [u8; 16]
-    ensures { result ≡ (if uses then message else held) }
+    ensures { result ≡ (when uses then message else held) }
 {
     if uses { message } else { held }
 }
@@ -261,7 +261,7 @@ pub(crate) fn controller_asked(
 }
 
 fn lost_report(count: usize, place: usize) -> Report
-    ensures { result ≡ (if leb count place then Report.Refused 3 else Report.Nothing) }
+    ensures { result ≡ (when leb count place then Report.Refused 3 else Report.Nothing) }
 {
     if count <= place {
         Report::Refused(3)
@@ -291,7 +291,7 @@ fn packet_lost(b: Modes, report: Report, sent: usize, returned: usize) -> Told
 }
 
 fn lost_to_console(b: Modes, place: usize, back: &mut [u8]) -> Told
-    ensures { (result ≡ record { report = if leb b.returned place then Report.Refused 3 else Report.Nothing; message = spaces; console = Move.Stay; controller = Move.Stay; after = record { console = b.console; controller = b.controller; sent = b.sent; returned = count_taken true b.returned place } }) × (back.new ≡ table_taken true back.old b.returned place) }
+    ensures { (result ≡ record { report = when leb b.returned place then Report.Refused 3 else Report.Nothing; message = spaces; console = Move.Stay; controller = Move.Stay; after = record { console = b.console; controller = b.controller; sent = b.sent; returned = count_taken true b.returned place } }) × (back.new ≡ table_taken true back.old b.returned place) }
 {
     let report = lost_report(b.returned, place);
     let returned = take(true, back, b.returned, place);
@@ -299,7 +299,7 @@ fn lost_to_console(b: Modes, place: usize, back: &mut [u8]) -> Told
 }
 
 fn lost_to_controller(b: Modes, place: usize, out: &mut [u8]) -> Told
-    ensures { (result ≡ record { report = if leb b.sent place then Report.Refused 3 else Report.Nothing; message = spaces; console = Move.Stay; controller = Move.Stay; after = record { console = b.console; controller = b.controller; sent = count_taken true b.sent place; returned = b.returned } }) × (out.new ≡ table_taken true out.old b.sent place) }
+    ensures { (result ≡ record { report = when leb b.sent place then Report.Refused 3 else Report.Nothing; message = spaces; console = Move.Stay; controller = Move.Stay; after = record { console = b.console; controller = b.controller; sent = count_taken true b.sent place; returned = b.returned } }) × (out.new ≡ table_taken true out.old b.sent place) }
 {
     let report = lost_report(b.sent, place);
     let sent = take(true, out, b.sent, place);

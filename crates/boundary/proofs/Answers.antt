@@ -13,7 +13,7 @@ use lib.ListN.{length, get_or, set}
 use lib.Dec.{eqb}
 use Rattle.ground.specs.Bytes.{Bytes}
 use Rattle.ground.specs.Cell.{is_message}
-use Rattle.ground.specs.Choice.{if◌then◌else◌}
+use Rattle.ground.specs.Choice.{when◌then◌else◌}
 use Rattle.ground.specs.First.{refusal}
 use Rattle.ground.proofs.Tests.{by_test, and_both}
 use Rattle.wire.specs.Number.{bytes_of}
@@ -56,7 +56,7 @@ says ack = report_back {M = List ℕ} (ack_says ack)
 
 alone_reads : (c : Console) → length c.message ≡ 16 → console_ok c ≡ true → (m packet reply : List ℕ) → is_refusal (console_alone c 0x41 m packet reply).outcome.report ≡ false
     → console_alone c 0x41 m packet reply ≡ record { outcome = record { report = says c.ack; sent = false; console = read_of c }; reply = reply }
-unfolding console_alone console_alone_acts console_read_step said ack_after rules.console_step rules.console_acts rules.console_turn rules.end_after rules.numbers_after rules.up_after rules.absent line letters among letter if◌then◌else◌
+unfolding console_alone console_alone_acts console_read_step said ack_after rules.console_step rules.console_acts rules.console_turn rules.end_after rules.numbers_after rules.up_after rules.absent line letters among letter when◌then◌else◌
 alone_reads c long ok m packet reply e =
     by_test (eqb (refusal (rules.console_rules numbering is_message (console_means c) rules.tell_ack)) 0)
     (λ z. rw (ok, z) (λ i. record { outcome = record { report = says c.ack; sent = false; console = only_its_ack c false long ok i }; reply = reply }))
@@ -67,10 +67,10 @@ unchanged n = rw (and_both (eqb n.reserved n.reserved) (eqb n.block n.block) (eq
 
 -- what is told of byte 20
 abbrev pub answer_in : List ℕ → ℕ
-answer_in s = if eqb (get_or s 20 0) 1 then 65 else 66
+answer_in s = when eqb (get_or s 20 0) 1 then 65 else 66
 
-told_so : (ack keep : Bool) → keep ≡ false → told (says ack) false keep ≡ (if eqb (flag ack) 1 then 65 else 66)
-unfolding marks if◌then◌else◌
+told_so : (ack keep : Bool) → keep ≡ false → told (says ack) false keep ≡ (when eqb (flag ack) 1 then 65 else 66)
+unfolding marks when◌then◌else◌
 told_so true keep e = rw e
 told_so false keep e = rw e
 
@@ -92,7 +92,7 @@ console_reads_the_answer s m packet reply b z =
     let ok = console_ok_lem s 0x41 m packet reply f in
     let same = console_write_back s b ok in
     let byte = sym (ack_byte c) ∙ ap (λ (l : List ℕ). get_or l 20 0) same in
-    let tells = told_so c.ack (changed c.numbers c.numbers) (unchanged c.numbers) ∙ ap (λ (n : ℕ). if eqb n 1 then 65 else 66) byte in
+    let tells = told_so c.ack (changed c.numbers c.numbers) (unchanged c.numbers) ∙ ap (λ (n : ℕ). when eqb n 1 then 65 else 66) byte in
     let left = only_that_byte c ∙ ap (λ (l : List ℕ). set l 20 0) same in
     let read = alone_reads c (console_long s) ok m packet reply f in
     let p : (console_state_step s 0x41 m packet reply).told ≡ answer_in s = ap (λ (d : ConsoleAlone). (stepped s d).told) read ∙ tells in
@@ -131,7 +131,7 @@ module _ (c : Console) (m packet reply : List ℕ) where
   hears_quiet (read_head.Is h) = takes_quiet (head_for_console h)
 
   alone_quiet : Quiet (console_alone c 0x53 m packet reply)
-  unfolding console_alone lent line letters among letter if◌then◌else◌
+  unfolding console_alone lent line letters among letter when◌then◌else◌
   alone_quiet =
       by_test (console_ok c)
       (λ t. rw t (by_test (eqb (length reply) 32) (λ l. rw l (hears_quiet (packet_read packet).head)) (λ l. rw l tt)))

@@ -11,7 +11,7 @@ use denote.Triple.Clauses.{AtExit}
 use lib.ListN.{length}
 use lib.Dec.{eqb}
 use Rattle.ground.specs.Bytes.{Bytes}
-use Rattle.ground.specs.Choice.{if◌then◌else◌}
+use Rattle.ground.specs.Choice.{when◌then◌else◌}
 use Rattle.ground.specs.First.{first}
 use Rattle.ground.proofs.Promise.{unequal}
 use Rattle.ground.proofs.Tests.{by_test}
@@ -31,20 +31,20 @@ use Rattle.boundary.proofs.records.nooseless_carry_record.Reads as carries
 -- ## What is refused: of either length 12, then as what is carried is read
 
 writable_1 : (r : NumberRecord) → record_write_refusal 12 (aged r) ≡ 0
-unfolding if◌then◌else◌
+unfolding when◌then◌else◌
 writable_1 r = rw (aged_old r) at (record_writable (aged r) (aged_good r))
 
 writable_2 : (r : NumberRecord) → is_good r ≡ true → record_write_refusal 16 (renewed r) ≡ 0
-unfolding if◌then◌else◌
+unfolding when◌then◌else◌
 writable_2 r g = rw (renewed_new r) at (record_writable (renewed r) (renewed_good r g))
 
 unwritable_2 : (n : ℕ) (r : NumberRecord) → eqb n 16 ≡ false → record_write_refusal n (renewed r) ≡ 12
-unfolding record_write_refusal first if◌then◌else◌
+unfolding record_write_refusal first when◌then◌else◌
 unwritable_2 n r f = rw (renewed_new r, f)
 
 module _ (s : List ℕ) (n : ℕ) where
-  of_read : (x : ReadRecord) → record_read s ≡ x → carry_refusal n x ≡ (if eqb n 12 || eqb n 16 then record_refusal s else 12)
-  unfolding if◌then◌else◌
+  of_read : (x : ReadRecord) → record_read s ≡ x → carry_refusal n x ≡ (when eqb n 12 || eqb n 16 then record_refusal s else 12)
+  unfolding when◌then◌else◌
   of_read (Refused r) e = rw (record_refused s e).0
   of_read (Is r) e =
       by_test (eqb n 12) (λ t. rw ((record_unrefused s e).0, t) (ap (λ (k : ℕ). record_write_refusal k (aged r)) (eqb-true n 12 t) ∙ writable_1 r))
@@ -53,7 +53,7 @@ module _ (s : List ℕ) (n : ℕ) where
       (λ t. rw ((record_unrefused s e).0, f, t) (ap (λ (k : ℕ). record_write_refusal k (renewed r)) (eqb-true n 16 t) ∙ writable_2 r (read_good s e)))
       (λ g. rw (f, g) (unwritable_2 n r g)))
 
-  pub carry_refuses : carry_refusal n (record_read s) ≡ (if eqb n 12 || eqb n 16 then record_refusal s else 12)
+  pub carry_refuses : carry_refusal n (record_read s) ≡ (when eqb n 12 || eqb n 16 then record_refusal s else 12)
   carry_refuses = of_read (record_read s) refl
 
 -- ## To each version
@@ -66,15 +66,15 @@ module _ (s to : List ℕ) {r : NumberRecord} (read : record_read s ≡ Is r) wh
   into {v} f z = (rw (read, f) z, rw (read, f) (record_put_lem to v z))
 
   to_version_1 : length to ≡ 12 → Into (aged r)
-  unfolding if◌then◌else◌
+  unfolding when◌then◌else◌
   to_version_1 l = into (rw l) (rw l (writable_1 r))
 
   to_version_2 : length to ≡ 16 → Into (renewed r)
-  unfolding if◌then◌else◌
+  unfolding when◌then◌else◌
   to_version_2 l = into (rw l) (rw l (writable_2 r (read_good s read)))
 
 own_version : (r : NumberRecord) → in_version (length_of r) r ≡ r
-unfolding if◌then◌else◌
+unfolding when◌then◌else◌
 own_version (ConsoleOld j) = refl
 own_version (ControllerOld i) = refl
 own_version (Console j b) = refl
@@ -91,8 +91,8 @@ carry_own s to b {r} read l =
 -- ## There and back
 
 -- what is not refused was accepted
-not_0 : (b : Bool) (n : ℕ) → (n ≡ 0 → ⊥) → (if b then n else 12) ≡ 0 → ⊥
-unfolding if◌then◌else◌
+not_0 : (b : Bool) (n : ℕ) → (n ≡ 0 → ⊥) → (when b then n else 12) ≡ 0 → ⊥
+unfolding when◌then◌else◌
 not_0 true n h e = h e
 not_0 false n h e = unequal e refl
 
@@ -101,14 +101,14 @@ accepted s n (Refused r) e z = absurd (not_0 (eqb n 12 || eqb n 16) r (record_re
 accepted s n (Is r) e z = (r, e)
 
 is_old_lem : (r : NumberRecord) → length_of r ≡ 12 → is_old r ≡ true
-unfolding if◌then◌else◌
+unfolding when◌then◌else◌
 is_old_lem (ConsoleOld j) e = refl
 is_old_lem (ControllerOld i) e = refl
 is_old_lem (Console j b) e = absurd (unequal e refl)
 is_old_lem (Controller i b) e = absurd (unequal e refl)
 
 is_new : (r : NumberRecord) → length_of r ≡ 16 → is_old r ≡ false
-unfolding if◌then◌else◌
+unfolding when◌then◌else◌
 is_new (ConsoleOld j) e = absurd (unequal e refl)
 is_new (ControllerOld i) e = absurd (unequal e refl)
 is_new (Console j b) e = refl

@@ -9,7 +9,7 @@ use lib.ListN.{length}
 use lib.Dec.{eqb}
 use Rattle.ground.specs.Bytes.{Bytes}
 use Rattle.ground.specs.Cell.{cells, is_message}
-use Rattle.ground.specs.Choice.{if◌then◌else◌}
+use Rattle.ground.specs.Choice.{when◌then◌else◌}
 use Rattle.ground.specs.First.{refusal}
 use Rattle.ground.proofs.Tests.{by_test, and_left}
 use Rattle.wire.specs.Packet.{packet_read}
@@ -113,7 +113,7 @@ module _ (c : Console) (typed : ConsoleTyped c) (m packet reply : List ℕ) (byt
   Leaves r = is_refusal r.outcome.report ≡ false → ConsoleLeft r.outcome.console
 
   acts_leave : (k : ConsoleAsk) (a : rules.ConsoleAct (List ℕ)) → ConsoleActOf m packet k a → console_ok c ≡ true → Leaves (console_alone_acts c reply a)
-  unfolding console_alone_acts console_read_step said rules.console_step if◌then◌else◌
+  unfolding console_alone_acts console_read_step said rules.console_step when◌then◌else◌
   acts_leave x a came y e =
       let k = refusal (rules.console_rules numbering is_message (console_means c) a) in
       let given = handed_good m packet (head_good (packet_read packet).head (packet_good packet bytes)) x a came in

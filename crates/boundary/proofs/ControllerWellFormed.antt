@@ -9,7 +9,7 @@ use native.Mathlib.Omega.{arith}
 use lib.Dec.{eqb}
 use Rattle.ground.specs.Bytes.{Bytes}
 use Rattle.ground.specs.Cell.{is_message}
-use Rattle.ground.specs.Choice.{if◌then◌else◌}
+use Rattle.ground.specs.Choice.{when◌then◌else◌}
 use Rattle.ground.specs.First.{refusal}
 use Rattle.ground.proofs.Tests.{by_test}
 use Rattle.wire.specs.Packet.{packet_read}
@@ -109,7 +109,7 @@ module _ (c : Controller) (typed : ControllerTyped c) (packet reply : List ℕ) 
   Leaves r = is_refusal r.outcome.report ≡ false → ControllerLeft r.outcome.controller
 
   acts_leave : (k : ControllerAsk) (a : rules.ControllerAct (List ℕ)) → ControllerActOf packet k a → controller_ok c ≡ true → Leaves (controller_alone_acts c reply a)
-  unfolding controller_alone_acts rules.controller_step if◌then◌else◌
+  unfolding controller_alone_acts rules.controller_step when◌then◌else◌
   acts_leave x a came y e =
       let k = refusal (rules.controller_rules numbering (controller_means c) a) in
       let p = packet_read packet in

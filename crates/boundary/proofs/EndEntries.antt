@@ -5,7 +5,7 @@ use mathlib.Core.Bool.{Bool, true, false}
 use mathlib.Core.List.{List}
 use native.Mathlib.Omega.{arith}
 use lib.ListN.{length}
-use Rattle.ground.specs.Choice.{if◌then◌else◌}
+use Rattle.ground.specs.Choice.{when◌then◌else◌}
 use Rattle.ground.proofs.Tests.{by_test}
 use Rattle.wire.specs.Record.{record_write_refusal, record_written}
 use Rattle.numbers.specs.Numbers.{numbers_kept}
@@ -35,7 +35,7 @@ use Rattle.boundary.proofs.EitherEnd.{started_0, record_2, record_n, record_kept
 -- the number record of a console's state
 
 console_ill : (c : Console) → console_read c ≡ console-read.IllFormed → console_ok c ≡ false
-unfolding console_read if◌then◌else◌
+unfolding console_read when◌then◌else◌
 console_ill c e = by_test (console_ok c) (λ t. absurd (console_other (sym (rw t at e)))) (λ f. f)
   where
     console_other : {x : console-end.End} → console-read.IllFormed ≡ console-read.Is x → ⊥
@@ -74,7 +74,7 @@ console_started s c e f = rw (← e) f
 -- the number record of a controller's state
 
 controller_ill : (c : Controller) → controller_read c ≡ controller-read.IllFormed → controller_ok c ≡ false
-unfolding controller_read if◌then◌else◌
+unfolding controller_read when◌then◌else◌
 controller_ill c e = by_test (controller_ok c) (λ t. absurd (controller_other (sym (rw t at e)))) (λ f. f)
   where
     controller_other : {x : controller-end.End} → controller-read.IllFormed ≡ controller-read.Is x → ⊥
@@ -111,14 +111,14 @@ pub controller_started : (s : List ℕ) (c : Controller) {d : Controller} {x : L
 controller_started s c e f = rw (← e) f
 
 -- the steps
-pub console_stepped : (s m packet reply : List ℕ) (l : ℕ) {c : Console} {o : ConsoleOutcome} {y z : List ℕ} {t : ℕ} {k : Bool} → c ≡ console.console_at s → record { outcome = o; reply = y } ≡ console_alone c l m packet reply → z ≡ (if is_refusal o.report then s else written 37 s (console.console_bytes o.console)) → k ≡ changed c.numbers o.console.numbers → t ≡ told o.report o.sent k → record { told = t; state = z; reply = y } ≡ console.console_state_step s l m packet reply
+pub console_stepped : (s m packet reply : List ℕ) (l : ℕ) {c : Console} {o : ConsoleOutcome} {y z : List ℕ} {t : ℕ} {k : Bool} → c ≡ console.console_at s → record { outcome = o; reply = y } ≡ console_alone c l m packet reply → z ≡ (when is_refusal o.report then s else written 37 s (console.console_bytes o.console)) → k ≡ changed c.numbers o.console.numbers → t ≡ told o.report o.sent k → record { told = t; state = z; reply = y } ≡ console.console_state_step s l m packet reply
 console_stepped s m packet reply l {o = o} {y = y} e f g k h =
     let q = f ∙ ap (λ (d : Console). console_alone d l m packet reply) e in
     let tells = h ∙ ap (told o.report o.sent) (k ∙ ap (λ (d : Console). changed d.numbers o.console.numbers) e) in
     let here : ◌≡◌ {A = console.ConsoleStep} (record { told = _; state = _; reply = y }) (console.stepped s (record { outcome = o; reply = y })) = λ i. record { told = tells i; state = g i; reply = y } in
     here ∙ ap (console.stepped s) q
 
-pub controller_stepped : (s packet reply out : List ℕ) (l : ℕ) {c : Controller} {o : ControllerOutcome} {y z d : List ℕ} {t : ℕ} {k : Bool} → c ≡ controller.controller_at s → record { outcome = o; reply = y } ≡ controller_alone c l packet reply → z ≡ (if is_refusal o.report then s else written 23 s (controller.controller_bytes o.controller)) → d ≡ controller.delivered_to o.report o.message out → k ≡ changed c.numbers o.controller.numbers → t ≡ told o.report o.sent k → record { told = t; state = z; reply = y; delivered = d } ≡ controller.controller_state_step s l packet reply out
+pub controller_stepped : (s packet reply out : List ℕ) (l : ℕ) {c : Controller} {o : ControllerOutcome} {y z d : List ℕ} {t : ℕ} {k : Bool} → c ≡ controller.controller_at s → record { outcome = o; reply = y } ≡ controller_alone c l packet reply → z ≡ (when is_refusal o.report then s else written 23 s (controller.controller_bytes o.controller)) → d ≡ controller.delivered_to o.report o.message out → k ≡ changed c.numbers o.controller.numbers → t ≡ told o.report o.sent k → record { told = t; state = z; reply = y; delivered = d } ≡ controller.controller_state_step s l packet reply out
 controller_stepped s packet reply out l {o = o} {y = y} e f g p k h =
     let q = f ∙ ap (λ (d : Controller). controller_alone d l packet reply) e in
     let tells = h ∙ ap (told o.report o.sent) (k ∙ ap (λ (d : Controller). changed d.numbers o.controller.numbers) e) in

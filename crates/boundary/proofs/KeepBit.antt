@@ -11,7 +11,7 @@ use denote.Triple.Clauses.{AtExit}
 use lib.ListN.{length}
 use lib.Dec.{eqb}
 use Rattle.ground.specs.Bytes.{Bytes}
-use Rattle.ground.specs.Choice.{if◌then◌else◌}
+use Rattle.ground.specs.Choice.{when◌then◌else◌}
 use Rattle.ground.specs.First.{first}
 use Rattle.ground.proofs.Tests.{and_left, and_right, and_both}
 use Rattle.wire.specs.Record.{is_old, number_of, block_of, is_block, is_good, record_bytes, record_write_refusal, record_written}
@@ -68,7 +68,7 @@ module _ (end : ℕ → ℕ → NumberRecord) (numbered : (r b : ℕ) → number
   good r b h = rw (new r b, blocked r b) h
 
   written : (n : Numbers) → Block n.block → record_of n ≡ record_bytes (end n.reserved n.block)
-  unfolding state_record_put record_written record_write_refusal first if◌then◌else◌
+  unfolding state_record_put record_written record_write_refusal first when◌then◌else◌
   written n h = rw (long, good n.reserved n.block h, new n.reserved n.block)
 
   -- other numbers have another record

@@ -6,7 +6,7 @@ use native.Mathlib.Omega.{arith}
 use borrow.Author.Tests.{ne_eqb, le-leb, lt-leb}
 use lib.ListN.{length, get_or, take, drop, length-drop}
 use lib.Dec.{eqb}
-use Rattle.ground.specs.Choice.{if◌then◌else◌}
+use Rattle.ground.specs.Choice.{when◌then◌else◌}
 use Rattle.wire.specs.Frame.{field}
 use Rattle.wire.specs.Number.{value}
 use Rattle.ground.proofs.Copies.{copied, rest_lent}
@@ -36,38 +36,38 @@ controller_fields_lem s e f g h = rw (e, f, g, h)
 -- bytes that are no state, by their length or a flag, and bytes that are one
 module _ (s : List ℕ) {x : Console} where
   pub console_short : (length s ≡ 37 → ⊥) → x ≡ console.no_console → x ≡ console.console_at s
-  unfolding console.console_at console.is_state if◌then◌else◌
+  unfolding console.console_at console.is_state when◌then◌else◌
   console_short h e = rw (ne_eqb (length s) 37 h) e
 
   pub console_held : length s ≡ 37 → 1 < get_or s 18 0 → x ≡ console.no_console → x ≡ console.console_at s
-  unfolding console.console_at console.is_state if◌then◌else◌
+  unfolding console.console_at console.is_state when◌then◌else◌
   console_held l h e = rw (l, lt-leb (get_or s 18 0) 1 h) e
 
   pub console_up : length s ≡ 37 → get_or s 18 0 ≤ 1 → 1 < get_or s 19 0 → x ≡ console.no_console → x ≡ console.console_at s
-  unfolding console.console_at console.is_state if◌then◌else◌
+  unfolding console.console_at console.is_state when◌then◌else◌
   console_up l k h e = rw (l, le-leb (get_or s 18 0) 1 k, lt-leb (get_or s 19 0) 1 h) e
 
   pub console_ack : length s ≡ 37 → get_or s 18 0 ≤ 1 → get_or s 19 0 ≤ 1 → 1 < get_or s 20 0 → x ≡ console.no_console → x ≡ console.console_at s
-  unfolding console.console_at console.is_state if◌then◌else◌
+  unfolding console.console_at console.is_state when◌then◌else◌
   console_ack l k u h e = rw (l, le-leb (get_or s 18 0) 1 k, le-leb (get_or s 19 0) 1 u, lt-leb (get_or s 20 0) 1 h) e
 
   pub console_good : length s ≡ 37 → get_or s 18 0 ≤ 1 → get_or s 19 0 ≤ 1 → get_or s 20 0 ≤ 1 → x ≡ console.fields_at s → x ≡ console.console_at s
-  unfolding console.console_at console.is_state if◌then◌else◌
+  unfolding console.console_at console.is_state when◌then◌else◌
   console_good l k u h e = rw (l, le-leb (get_or s 18 0) 1 k, le-leb (get_or s 19 0) 1 u, le-leb (get_or s 20 0) 1 h) e
 
 pub ruleset console_reads = (console_short, console_held, console_up, console_ack, console_good)
 
 module _ (s : List ℕ) {x : Controller} where
   pub controller_short : (length s ≡ 23 → ⊥) → x ≡ controller.no_controller → x ≡ controller.controller_at s
-  unfolding controller.controller_at controller.is_state if◌then◌else◌
+  unfolding controller.controller_at controller.is_state when◌then◌else◌
   controller_short h e = rw (ne_eqb (length s) 23 h) e
 
   pub controller_up : length s ≡ 23 → 1 < get_or s 22 0 → x ≡ controller.no_controller → x ≡ controller.controller_at s
-  unfolding controller.controller_at controller.is_state if◌then◌else◌
+  unfolding controller.controller_at controller.is_state when◌then◌else◌
   controller_up l h e = rw (l, lt-leb (get_or s 22 0) 1 h) e
 
   pub controller_good : length s ≡ 23 → get_or s 22 0 ≤ 1 → x ≡ controller.fields_at s → x ≡ controller.controller_at s
-  unfolding controller.controller_at controller.is_state if◌then◌else◌
+  unfolding controller.controller_at controller.is_state when◌then◌else◌
   controller_good l h e = rw (l, le-leb (get_or s 22 0) 1 h) e
 
 pub ruleset controller_reads = (controller_short, controller_up, controller_good)

@@ -9,7 +9,7 @@ use borrow.Author.Tests.{eqb-false, ltb-true}
 use lib.Dec.{eqb, ltb}
 use lib.ListN.{get_or, drop}
 use Rattle.ground.specs.Cell.{is_message}
-use Rattle.ground.specs.Choice.{if◌then◌else◌}
+use Rattle.ground.specs.Choice.{when◌then◌else◌}
 use Rattle.ground.specs.Every.{every}
 use Rattle.ground.specs.First.{Rule, first, applies, refusal_order, refusal}
 use Rattle.ground.proofs.Tests.{by_test, and_left, and_right}
@@ -55,7 +55,7 @@ abbrev small : Rule → Bool
 small r = ltb r.0 32
 
 first_small : (rs : List Rule) → every small rs ≡ true → first rs < 32
-unfolding first if◌then◌else◌
+unfolding first when◌then◌else◌
 first_small [] h = omega arith
 first_small (r ∷ rs) h =
     by_test r.1
@@ -75,7 +75,7 @@ abbrev pub Numbered : ReadHead → Type 0
 Numbered h = HeadIs Refusal one two twelve fifteen h
 
 found_holds : {A B : Type 0} (P : B → Type 0) (test : A → Bool) (is : A → B) (other : B) → P other → ((a : A) → P (is a)) → (l : List A) → P (found test is other l)
-unfolding if◌then◌else◌
+unfolding when◌then◌else◌
 found_holds P test is other h k [] = h
 found_holds P test is other h k (a ∷ l) = by_test (test a) (λ t. rw t (k a)) (λ f. rw f (found_holds P test is other h k l))
 
@@ -89,7 +89,7 @@ unfolding head_at
 head_at_lem s = head_of_lem (get_or s 5 0) (value (field s 8 4)) (value (field s 12 4))
 
 pub head_number : (s : List ℕ) → Numbered (packet_read s).head
-unfolding packet_read read_refusal if◌then◌else◌
+unfolding packet_read read_refusal when◌then◌else◌
 head_number s =
     let small_read = first_small (read_refusals 32 0x4C 1 s (carries (head_at s) (drop 16 s))) refl in
     by_test (eqb (read_refusal s) 0) (λ t. rw t (head_at_lem s)) (λ f. rw f (above (read_refusal s) (eqb-false (read_refusal s) 0 f), small_read))
@@ -98,7 +98,7 @@ head_number s =
 
 module _ (b : Bench) (a : Action) (out back : List ℕ) where
   letter_number : (l : Option Letter) (n : ℕ) → (step_of l b a out back).outcome.report ≡ report.Refused n → Refusal n
-  unfolding bench_refused bench_told read_step if◌then◌else◌
+  unfolding bench_refused bench_told read_step when◌then◌else◌
   letter_number none n e = subst Refusal (ap number_in e) one
   letter_number (some l) n e =
       by_test (bench_ok b out back)

@@ -6,7 +6,7 @@ use mathlib.Core.List.{List}
 use borrow.Author.Tests.{ne_eqb}
 use lib.ListN.{length}
 use lib.Dec.{eqb}
-use Rattle.ground.specs.Choice.{if◌then◌else◌}
+use Rattle.ground.specs.Choice.{when◌then◌else◌}
 use Rattle.ground.proofs.Promise.{RefusalLeaves}
 use Rattle.ground.proofs.Tests.{by_test}
 use Rattle.wire.specs.Packet.{head_of, packet_read, write_refusal, packet_written}
@@ -61,8 +61,8 @@ abbrev Refusing : ℕ → Type 0
 Refusing n = n ≡ 0 → ⊥
 
 -- what is written only without a refusal
-left : {A : Type 0} (n : ℕ) (w s : A) → Refusing n → (if eqb n 0 then w else s) ≡ s
-unfolding if◌then◌else◌
+left : {A : Type 0} (n : ℕ) (w s : A) → Refusing n → (when eqb n 0 then w else s) ≡ s
+unfolding when◌then◌else◌
 left n w s z = rw (ne_eqb n 0 z)
 
 -- ## Packets
@@ -121,7 +121,7 @@ carry_record_refusal_leaves κs a x s t z p = p.1 ∙ carry_kept (record_read a.
 -- ## An end's state: fresh, started after power loss, and its number record. One law for both ends, over the length of a state
 
 fresh_left : (n : ℕ) (s b : List ℕ) → Refusing (length_refusal n s) → written n s b ≡ s
-unfolding length_refusal written if◌then◌else◌
+unfolding length_refusal written when◌then◌else◌
 fresh_left n s b z = by_test (eqb (length s) n) (λ t. absurd (z (rw t))) (λ f. rw f)
 
 start_left : (n : ℕ) (s : List ℕ) (l : Start) (b : List ℕ) → Refusing (start_refusal n s l) → started n s l b ≡ s
@@ -129,7 +129,7 @@ unfolding started
 start_left n s l b z = left (start_refusal n s l) b s z
 
 state_record_left : (ok : Bool) (u : NumberRecord) (out : List ℕ) → Refusing (state_record_refusal ok u out) → state_record_put ok u out ≡ out
-unfolding state_record_refusal state_record_put if◌then◌else◌
+unfolding state_record_refusal state_record_put when◌then◌else◌
 state_record_left true u out z = written_kept u out z
 state_record_left false u out z = refl
 
@@ -157,7 +157,7 @@ abbrev three : BenchPut → List ℕ × List ℕ × List ℕ
 three r = (r.state, r.out, r.back)
 
 bench_left : (j : J) (i : I) (s out back : List ℕ) → Refusing (fresh_put j i s out back).told → three (fresh_put j i s out back) ≡ (s, out, back)
-unfolding fresh_put bench_fresh bench_told bench_refused marks if◌then◌else◌
+unfolding fresh_put bench_fresh bench_told bench_refused marks when◌then◌else◌
 bench_left j i s out back z =
     by_test (eqb (length s) 62)
     (λ t. by_test (eqb (length out) 2048 && eqb (length back) 2048) (λ u. absurd (z (rw (t, u)))) (λ f. rw (t, f)))

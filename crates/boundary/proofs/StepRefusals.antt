@@ -4,7 +4,7 @@ use mathlib.Core.Path.{◌≡◌, ap, subst, ◌∙◌}
 use mathlib.Core.Bool.{false}
 use mathlib.Core.List.{List}
 use Rattle.ground.specs.Bytes.{Bytes}
-use Rattle.ground.specs.Choice.{if◌then◌else◌}
+use Rattle.ground.specs.Choice.{when◌then◌else◌}
 use Rattle.ground.proofs.Promise.{RefusalLeaves}
 use Rattle.alone.specs.ConsoleAlone.{console_alone}
 use Rattle.alone.specs.ControllerAlone.{controller_alone}
@@ -26,7 +26,7 @@ use Rattle.boundary.proofs.benches.nooseless_bench_step.Reads as bench-step
 -- ## A console: its state and the reply buffer
 
 console_left : (s : List ℕ) (l : ℕ) (m packet reply : List ℕ) → Refusal (console.console_state_step s l m packet reply).told → (n : ℕ) × (console.console_state_step s l m packet reply ≡ record { told = n; state = s; reply = reply })
-unfolding if◌then◌else◌
+unfolding when◌then◌else◌
 console_left s l m packet reply h =
     let a = console_alone (console.console_at s) l m packet reply in
     let n = (console.stepped s a).told in
@@ -41,7 +41,7 @@ console_step_refusal_leaves κs a x s t z p =
 -- ## A controller: its state, the reply buffer and the bytes lent for a delivery
 
 controller_left : (s : List ℕ) (l : ℕ) (packet reply out : List ℕ) → Refusal (controller.controller_state_step s l packet reply out).told → (n : ℕ) × (controller.controller_state_step s l packet reply out ≡ record { told = n; state = s; reply = reply; delivered = out })
-unfolding if◌then◌else◌
+unfolding when◌then◌else◌
 controller_left s l packet reply out h =
     let a = controller_alone (controller.controller_at s) l packet reply in
     let n = (controller.stepped s out a).told in

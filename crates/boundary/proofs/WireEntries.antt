@@ -6,7 +6,7 @@ use mathlib.Core.List.{List}
 use borrow.Author.Tests.{eq-eqb, ne_eqb}
 use lib.ListN.{length}
 use lib.Dec.{eqb}
-use Rattle.ground.specs.Choice.{if◌then◌else◌}
+use Rattle.ground.specs.Choice.{when◌then◌else◌}
 use Rattle.wire.specs.Packet.{kind_of, first_of, second_of, head_of, packet_read, write_refusal, packet_written}
 use Rattle.wire.specs.Record.{end_of, number_of, block_of, record_of, record_read, record_write_refusal, record_written, renewed, aged}
 use Rattle.wire.specs.declared.Head.{Head}
@@ -32,11 +32,11 @@ pub ruleset packet_reads = (packet_refused, packet_read_lem)
 -- a packet that is written
 module _ (out m : List ℕ) (k a b : ℕ) {h : ReadHead} (e : h ≡ head_of k a b) where
   pub head_15 : {n : ℕ} → h ≡ Refused n → length out ≡ 32 → 15 ≡ head_refusal (length out) (head_of k a b) m
-  unfolding if◌then◌else◌
+  unfolding when◌then◌else◌
   head_15 f l = rw (← e, f, l)
 
   pub head_12 : {n : ℕ} → h ≡ Refused n → (length out ≡ 32 → ⊥) → 12 ≡ head_refusal (length out) (head_of k a b) m
-  unfolding if◌then◌else◌
+  unfolding when◌then◌else◌
   head_12 f l = rw (← e, f, ne_eqb (length out) 32 l)
 
   pub head_n : {g : Head} {r : ℕ} → h ≡ Is g → r ≡ write_refusal (length out) (record { head = g; message = m }) → r ≡ head_refusal (length out) (head_of k a b) m
@@ -65,11 +65,11 @@ pub ruleset record_reads = (record_refused, record_read_lem)
 -- a number record that is written
 module _ (out : List ℕ) (x y b : ℕ) {r : ReadRecord} (e : r ≡ record_of x y b) where
   pub end_15 : {n k : ℕ} → r ≡ read-record.Refused n → k ≡ length_with b → length out ≡ k → 15 ≡ record_put_refusal (length out) b (record_of x y b)
-  unfolding if◌then◌else◌
+  unfolding when◌then◌else◌
   end_15 {k = k} f g l = rw (← e, f, ← g, eq-eqb (length out) k l)
 
   pub end_12 : {n k : ℕ} → r ≡ read-record.Refused n → k ≡ length_with b → (length out ≡ k → ⊥) → 12 ≡ record_put_refusal (length out) b (record_of x y b)
-  unfolding if◌then◌else◌
+  unfolding when◌then◌else◌
   end_12 {k = k} f g l = rw (← e, f, ← g, ne_eqb (length out) k l)
 
   pub end_n : {u : NumberRecord} {n : ℕ} → r ≡ read-record.Is u → n ≡ record_write_refusal (length out) u → n ≡ record_put_refusal (length out) b (record_of x y b)
@@ -88,20 +88,20 @@ pub ruleset end_puts = (end_kept, end_put)
 -- a number record that is carried
 module _ (n : ℕ) (u : NumberRecord) {x : NumberRecord} where
   pub to_version_1 : n ≡ 12 → x ≡ aged u → x ≡ in_version n u
-  unfolding if◌then◌else◌
+  unfolding when◌then◌else◌
   to_version_1 t e = rw (eq-eqb n 12 t) e
 
   pub to_version_2 : (n ≡ 12 → ⊥) → x ≡ renewed u → x ≡ in_version n u
-  unfolding if◌then◌else◌
+  unfolding when◌then◌else◌
   to_version_2 h e = rw (ne_eqb n 12 h) e
 
 module _ (s to : List ℕ) {r : ReadRecord} (e : r ≡ record_read s) where
   pub carry_n : {n : ℕ} → r ≡ read-record.Refused n → (eqb (length to) 12 || eqb (length to) 16) ≡ true → n ≡ carry_refusal (length to) (record_read s)
-  unfolding if◌then◌else◌
+  unfolding when◌then◌else◌
   carry_n f t = rw (← e, f, t)
 
   pub carry_12 : {n : ℕ} → r ≡ read-record.Refused n → (eqb (length to) 12 || eqb (length to) 16) ≡ false → 12 ≡ carry_refusal (length to) (record_read s)
-  unfolding if◌then◌else◌
+  unfolding when◌then◌else◌
   carry_12 f t = rw (← e, f, t)
 
   pub carry_is : {u v : NumberRecord} {n : ℕ} → r ≡ read-record.Is u → v ≡ in_version (length to) u → n ≡ record_write_refusal (length to) v → n ≡ carry_refusal (length to) (record_read s)

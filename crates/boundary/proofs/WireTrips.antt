@@ -6,7 +6,7 @@ use mathlib.Core.List.{List}
 use lib.ListN.{length}
 use lib.Dec.{eqb}
 use Rattle.ground.specs.Bytes.{Bytes}
-use Rattle.ground.specs.Choice.{if◌then◌else◌}
+use Rattle.ground.specs.Choice.{when◌then◌else◌}
 use Rattle.ground.proofs.Promise.{unequal}
 use Rattle.wire.specs.Packet.{head_of, packet_read}
 use Rattle.wire.specs.Record.{record_of, record_read, record_write_refusal}
@@ -27,8 +27,8 @@ use Rattle.boundary.specs.Packets.{PacketOut, head_out, packet_out, head_refusal
 use Rattle.boundary.specs.Records.{RecordOut, record_out, length_with, record_put_refusal, record_put}
 
 -- what no line of the table has is refused
-no_line : (b : Bool) → ◌≡◌ {A = ℕ} (if b then 15 else 12) 0 → ⊥
-unfolding if◌then◌else◌
+no_line : (b : Bool) → ◌≡◌ {A = ℕ} (when b then 15 else 12) 0 → ⊥
+unfolding when◌then◌else◌
 no_line true e = unequal e refl
 no_line false e = unequal e refl
 

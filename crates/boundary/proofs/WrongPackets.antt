@@ -7,7 +7,7 @@ use contract.Lifetimes.{Lfts}
 use borrow.Fn.Kinds.{Dens, ended_of}
 use lib.ListN.{length, get_or, replicate}
 use denote.Triple.Clauses.{AtExit}
-use Rattle.ground.specs.Choice.{if◌then◌else◌}
+use Rattle.ground.specs.Choice.{when◌then◌else◌}
 use Rattle.ground.specs.First.{first}
 use Rattle.ground.proofs.Promise.{RulesOut, unequal}
 use Rattle.wire.specs.Packet.{head_of, read_refusal, packet_read}
@@ -42,17 +42,17 @@ first_number_as_second κs a x s e w p =
 
 -- what was in the place of the kind is lost
 pub clears_on_a_refusal : RulesOut read-packet-kinds.ps read-packet-kinds.r read-packet.Post (λ κs a. (a.0.now ≡ replicate 31 0) × (a.1.0.now ≡ 7)) (λ κs a x s. s.1.0.now ≡ 0)
-unfolding packet_read read_refusal first if◌then◌else◌
+unfolding packet_read read_refusal first when◌then◌else◌
 clears_on_a_refusal κs a x s e w p =
     let q = p ∙ ap (λ (l : List ℕ). packet_out l a.1.0.now a.1.1.0.now a.1.1.1.0.now a.1.1.1.1.0.now) e.0 in
     unequal (sym w ∙ ap (λ (r : PacketOut). r.kind) q ∙ e.1) refl
 
 pub takes_kind_7 : RulesOut write-packet-kinds.ps write-packet-kinds.r write-packet.Post (λ κs a. (length a.0.now ≡ 32) × (a.1.0 ≡ 7) × (a.1.1.0 ≡ 1) × (a.1.1.1.0 ≡ 0)) (λ κs a x s. x ≡ 0)
-unfolding head_of if◌then◌else◌
+unfolding head_of when◌then◌else◌
 takes_kind_7 κs a x s e w p = unequal (sym w ∙ p.0 ∙ (λ i. head_refusal (e.0 i) (head_of (e.1 i) (e.2 i) (e.3 i)) a.1.1.1.1.0.now)) refl
 
 pub packet_15_before_12 : RulesOut write-packet-kinds.ps write-packet-kinds.r write-packet.Post (λ κs a. (length a.0.now ≡ 31) × (a.1.0 ≡ 7) × (a.1.1.0 ≡ 1) × (a.1.1.1.0 ≡ 0)) (λ κs a x s. x ≡ 15)
-unfolding head_of if◌then◌else◌
+unfolding head_of when◌then◌else◌
 packet_15_before_12 κs a x s e w p = unequal (sym w ∙ p.0 ∙ (λ i. head_refusal (e.0 i) (head_of (e.1 i) (e.2 i) (e.3 i)) a.1.1.1.1.0.now)) refl
 
 -- ## Number records
@@ -74,7 +74,7 @@ record_without_its_block κs a x s e w p =
     unequal (sym w ∙ ap (λ (r : RecordOut). r.block) q) refl
 
 pub record_clears_on_a_refusal : RulesOut read-record-kinds.ps read-record-kinds.r read-record.Post (λ κs a. (a.0.now ≡ replicate 11 0) × (a.1.0.now ≡ 7)) (λ κs a x s. s.1.0.now ≡ 0)
-unfolding record_read record_refusal first if◌then◌else◌
+unfolding record_read record_refusal first when◌then◌else◌
 record_clears_on_a_refusal κs a x s e w p =
     let q = p ∙ ap (λ (l : List ℕ). record_out (record_read l) a.1.0.now a.1.1.0.now a.1.1.1.0.now) e.0 in
     unequal (sym w ∙ ap (λ (r : RecordOut). r.end) q ∙ e.1) refl
@@ -84,19 +84,19 @@ abbrev WritesRecord : ℕ → ℕ → ℕ → ℕ → Type 0
 WritesRecord n end block y = RulesOut write-record-kinds.ps write-record-kinds.r write-record.Post (λ κs a. (length a.0.now ≡ n) × (a.1.0 ≡ end) × (a.1.1.0 ≡ 7) × (a.1.1.1.0 ≡ block)) (λ κs a x s. x ≡ y)
 
 pub takes_end_3 : WritesRecord 12 3 0 0
-unfolding record_of if◌then◌else◌
+unfolding record_of when◌then◌else◌
 takes_end_3 κs a x s e w p = unequal (sym w ∙ p.0 ∙ (λ i. record_put_refusal (e.0 i) (e.3 i) (record_of (e.1 i) (e.2 i) (e.3 i)))) refl
 
 pub record_15_before_12 : WritesRecord 11 3 0 15
-unfolding record_of if◌then◌else◌
+unfolding record_of when◌then◌else◌
 record_15_before_12 κs a x s e w p = unequal (sym w ∙ p.0 ∙ (λ i. record_put_refusal (e.0 i) (e.3 i) (record_of (e.1 i) (e.2 i) (e.3 i)))) refl
 
 pub writes_block_1025 : WritesRecord 16 1 1025 0
-unfolding record_of record_write_refusal first if◌then◌else◌
+unfolding record_of record_write_refusal first when◌then◌else◌
 writes_block_1025 κs a x s e w p = unequal (sym w ∙ p.0 ∙ (λ i. record_put_refusal (e.0 i) (e.3 i) (record_of (e.1 i) (e.2 i) (e.3 i)))) refl
 
 pub writes_version_2_to_12_bytes : WritesRecord 12 1 64 0
-unfolding record_of record_write_refusal first if◌then◌else◌
+unfolding record_of record_write_refusal first when◌then◌else◌
 writes_version_2_to_12_bytes κs a x s e w p = unequal (sym w ∙ p.0 ∙ (λ i. record_put_refusal (e.0 i) (e.3 i) (record_of (e.1 i) (e.2 i) (e.3 i)))) refl
 
 -- a carrier of a console's record of version 1 with last used 7 to 16 bytes, and to 13
@@ -108,17 +108,17 @@ module _ (κs : Lfts 2) (a : Dens κs carry-kinds.ps) (n : ℕ) (s : AtExit (end
   seven = ap record_read from ∙ record_read_back sevens (omega arith) refl
 
   carried_so : a.1.0.now ≡ replicate 16 0 → s.1.0.now ≡ record_bytes (Console (record { 0 = 7 }) 64)
-  unfolding record_written record_write_refusal first if◌then◌else◌
+  unfolding record_written record_write_refusal first when◌then◌else◌
   carried_so e = meets.1 ∙ (λ i. carried (e i) (seven i))
 
   pub carries_with_block_1 : a.1.0.now ≡ replicate 16 0 → get_or s.1.0.now 13 0 ≡ 1 → ⊥
-  unfolding record_bytes bytes_of if◌then◌else◌
+  unfolding record_bytes bytes_of when◌then◌else◌
   carries_with_block_1 e w = unequal (sym w ∙ ap (λ (l : List ℕ). get_or l 13 0) (carried_so e)) refl
 
   pub carries_nothing : a.1.0.now ≡ replicate 16 0 → s.1.0.now ≡ a.1.0.now → ⊥
-  unfolding record_bytes if◌then◌else◌
+  unfolding record_bytes when◌then◌else◌
   carries_nothing e w = unequal (ap (λ (l : List ℕ). get_or l 0 0) (sym e ∙ sym w ∙ carried_so e)) refl
 
   pub carries_to_13_bytes : length a.1.0.now ≡ 13 → n ≡ 0 → ⊥
-  unfolding record_write_refusal first if◌then◌else◌
+  unfolding record_write_refusal first when◌then◌else◌
   carries_to_13_bytes l w = unequal (sym w ∙ meets.0 ∙ (λ i. carry_refusal (l i) (seven i))) refl

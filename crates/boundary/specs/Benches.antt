@@ -1,6 +1,6 @@
 -- A bench's state as 62 bytes beside its two tables, and what each entry for it does. Assumes nothing.
 use Rattle.std.specs.Prelude.{ℕ, ◌*◌, ◌%◌, false, List, [], ◌∷◌, ◌++◌, length, get_or, eqb}
-use Rattle.ground.specs.Choice.{if◌then◌else◌}
+use Rattle.ground.specs.Choice.{when◌then◌else◌}
 use Rattle.wire.specs.Frame.{field}
 use Rattle.wire.specs.declared.I.{I}
 use Rattle.wire.specs.declared.J.{J}
@@ -35,7 +35,7 @@ abbrev pub no_bench : Bench
 no_bench = record { console = no_console; controller = no_controller; sent = 0; returned = 0 }
 
 unfoldable pub bench_at : List ℕ → Bench
-bench_at s = if eqb (length s) 62 then parts_at s else no_bench
+bench_at s = when eqb (length s) 62 then parts_at s else no_bench
 
 -- ## Fresh, and a step
 
@@ -51,7 +51,7 @@ abbrev pub put : List ℕ → Result → BenchPut
 put s r =
     record {
       told = told r.outcome.report false false;
-      state = if is_refusal r.outcome.report then s else written 62 s (bench_bytes r.outcome.bench);
+      state = when is_refusal r.outcome.report then s else written 62 s (bench_bytes r.outcome.bench);
       out = r.out;
       back = r.back;
     }
@@ -59,7 +59,7 @@ put s r =
 -- a state or a table of another length is 2, and all three are left
 unfoldable pub fresh_put : J → I → List ℕ → List ℕ → List ℕ → BenchPut
 fresh_put j i s out back =
-    if eqb (length s) 62 then put s (bench_fresh j i out back) else record { told = 2; state = s; out = out; back = back }
+    when eqb (length s) 62 then put s (bench_fresh j i out back) else record { told = 2; state = s; out = out; back = back }
 
 abbrev pub step_result : List ℕ → Action → List ℕ → List ℕ → Result
 step_result s a out back = bench_step (bench_at s) a out back
@@ -91,14 +91,14 @@ step_put s a out back d = stepped s d (step_result s a out back)
 -- of the channel that leads to an end, 1 console, 2 controller; any other end has no places, and no channel has a place 64
 unfoldable pub show_to : ℕ → ℕ → List ℕ → ℕ → List ℕ → ℕ → ℕ
 show_to end place out sent back returned =
-    if eqb end 1 then show_refusal Back place out sent back returned
-    else if eqb end 2 then show_refusal Out place out sent back returned
+    when eqb end 1 then show_refusal Back place out sent back returned
+    else when eqb end 2 then show_refusal Out place out sent back returned
     else show_refusal Back 64 out sent back returned
 
 -- it looks only at lengths, counts and place: 2, then 3
 unfoldable pub show_at : List ℕ → List ℕ → List ℕ → ℕ → ℕ → ℕ
-show_at s out back end place = if eqb (length s) 62 then show_to end place out (get_or s 60 0) back (get_or s 61 0) else 2
+show_at s out back end place = when eqb (length s) 62 then show_to end place out (get_or s 60 0) back (get_or s 61 0) else 2
 
 -- where the 32 bytes begin in that channel's table
 unfoldable pub offset_at : ℕ → ℕ → ℕ → ℕ
-offset_at refusal place before = if eqb refusal 0 then place * 32 else before
+offset_at refusal place before = when eqb refusal 0 then place * 32 else before

@@ -1,6 +1,6 @@
 -- A console's state as 37 bytes, and what each entry for it does. Assumes nothing.
 use Rattle.std.specs.Prelude.{ℕ, Bool, false, ◌&&◌, List, [], ◌∷◌, ◌++◌, length, get_or, drop, eqb, leb}
-use Rattle.ground.specs.Choice.{if◌then◌else◌}
+use Rattle.ground.specs.Choice.{when◌then◌else◌}
 use Rattle.ground.specs.Cell.{spaces}
 use Rattle.wire.specs.Frame.{field}
 use Rattle.wire.specs.Number.{bytes_of, value}
@@ -44,7 +44,7 @@ no_console =
     record { numbers = numbers_fresh 0; held = false; message = spaces; j = record { 0 = 1 }; last = record { 0 = 0 }; up = false; ack = false }
 
 unfoldable pub console_at : List ℕ → Console
-console_at s = if is_state s then fields_at s else no_console
+console_at s = when is_state s then fields_at s else no_console
 
 -- its number record
 abbrev pub console_record : Console → NumberRecord
@@ -70,7 +70,7 @@ abbrev pub stepped : List ℕ → ConsoleAlone → ConsoleStep
 stepped s a =
     record {
       told = told a.outcome.report a.outcome.sent (changed (console_at s).numbers a.outcome.console.numbers);
-      state = if is_refusal a.outcome.report then s else written 37 s (console_bytes a.outcome.console);
+      state = when is_refusal a.outcome.report then s else written 37 s (console_bytes a.outcome.console);
       reply = a.reply;
     }
 

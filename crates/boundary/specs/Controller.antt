@@ -1,6 +1,6 @@
 -- A controller's state as 23 bytes, and what each entry for it does. Assumes nothing.
 use Rattle.std.specs.Prelude.{ℕ, Bool, false, ◌&&◌, List, [], ◌∷◌, ◌++◌, length, get_or, eqb, leb}
-use Rattle.ground.specs.Choice.{if◌then◌else◌}
+use Rattle.ground.specs.Choice.{when◌then◌else◌}
 use Rattle.wire.specs.Frame.{field}
 use Rattle.wire.specs.Number.{bytes_of, value}
 use Rattle.wire.specs.Record.{record_read}
@@ -40,7 +40,7 @@ no_controller =
     record { numbers = numbers_fresh 0; j = record { 0 = 1 }; i = record { 0 = 0 }; last = record { 0 = 0 }; up = false }
 
 unfoldable pub controller_at : List ℕ → Controller
-controller_at s = if is_state s then fields_at s else no_controller
+controller_at s = when is_state s then fields_at s else no_controller
 
 -- its number record
 abbrev pub controller_record : Controller → NumberRecord
@@ -75,7 +75,7 @@ abbrev pub stepped : List ℕ → List ℕ → ControllerAlone → ControllerSte
 stepped s out a =
     record {
       told = told a.outcome.report a.outcome.sent (changed (controller_at s).numbers a.outcome.controller.numbers);
-      state = if is_refusal a.outcome.report then s else written 23 s (controller_bytes a.outcome.controller);
+      state = when is_refusal a.outcome.report then s else written 23 s (controller_bytes a.outcome.controller);
       reply = a.reply;
       delivered = delivered_to a.outcome.report a.outcome.message out;
     }

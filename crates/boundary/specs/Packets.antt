@@ -1,6 +1,6 @@
 -- Packets by their numbers, as C has them. Assumes nothing.
 use Rattle.std.specs.Prelude.{ℕ, List, eqb}
-use Rattle.ground.specs.Choice.{if◌then◌else◌}
+use Rattle.ground.specs.Choice.{when◌then◌else◌}
 use Rattle.wire.specs.Packet.{kind_of, first_of, second_of, write_refusal, packet_written, packet_read}
 use Rattle.wire.specs.declared.ReadHead.{ReadHead}
 use Rattle.wire.specs.declared.ReadHead.TheVariants.{Refused, Is}
@@ -23,7 +23,7 @@ packet_out s k a b o = head_out (packet_read s).head (packet_read s).message k a
 
 -- kind and numbers that no line of the table has are 15, after 12
 abbrev pub head_refusal : ℕ → ReadHead → List ℕ → ℕ
-head_refusal n (Refused r) m = if eqb n 32 then 15 else 12
+head_refusal n (Refused r) m = when eqb n 32 then 15 else 12
 head_refusal n (Is h) m = write_refusal n (record { head = h; message = m })
 
 abbrev pub head_put : List ℕ → ReadHead → List ℕ → List ℕ

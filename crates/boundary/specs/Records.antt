@@ -1,6 +1,6 @@
 -- Number records by their numbers, as C has them. Assumes nothing.
 use Rattle.std.specs.Prelude.{ℕ, ◌||◌, List, length, eqb}
-use Rattle.ground.specs.Choice.{if◌then◌else◌}
+use Rattle.ground.specs.Choice.{when◌then◌else◌}
 use Rattle.wire.specs.Record.{end_of, number_of, block_of, record_write_refusal, record_written, renewed, aged}
 use Rattle.wire.specs.declared.NumberRecord.{NumberRecord}
 use Rattle.wire.specs.declared.ReadRecord.{ReadRecord}
@@ -20,11 +20,11 @@ record_out (Is r) e n b = record { refusal = 0; end = end_of r; number = number_
 
 -- the length of the version that a block makes
 abbrev pub length_with : ℕ → ℕ
-length_with b = if eqb b 0 then 12 else 16
+length_with b = when eqb b 0 then 12 else 16
 
 -- an end that is no end is 15, after 12
 abbrev pub record_put_refusal : ℕ → ℕ → ReadRecord → ℕ
-record_put_refusal n b (Refused r) = if eqb n (length_with b) then 15 else 12
+record_put_refusal n b (Refused r) = when eqb n (length_with b) then 15 else 12
 record_put_refusal n b (Is r) = record_write_refusal n r
 
 abbrev pub record_put : List ℕ → ReadRecord → List ℕ
@@ -35,11 +35,11 @@ record_put out (Is r) = record_written out r
 
 -- the version that a length names: 12 bytes version 1, 16 version 2, which refuses any other length
 abbrev pub in_version : ℕ → NumberRecord → NumberRecord
-in_version n r = if eqb n 12 then aged r else renewed r
+in_version n r = when eqb n 12 then aged r else renewed r
 
 -- 12 of either length, then 13, 14, 15 of what is carried
 abbrev pub carry_refusal : ℕ → ReadRecord → ℕ
-carry_refusal n (Refused r) = if eqb n 12 || eqb n 16 then r else 12
+carry_refusal n (Refused r) = when eqb n 12 || eqb n 16 then r else 12
 carry_refusal n (Is r) = record_write_refusal n (in_version n r)
 
 -- a refusal leaves the bytes

@@ -1,6 +1,6 @@
 -- What the states of both ends share: numbers, flags, what a step tells, and what a start takes from a number record. Assumes nothing.
 use Rattle.std.specs.Prelude.{ℕ, ◌+◌, ◌*◌, Bool, true, false, not, ◌&&◌, List, ◌++◌, length, eqb}
-use Rattle.ground.specs.Choice.{if◌then◌else◌}
+use Rattle.ground.specs.Choice.{when◌then◌else◌}
 use Rattle.wire.specs.Frame.{field}
 use Rattle.wire.specs.Number.{bytes_of, value}
 use Rattle.wire.specs.Record.{end_of, number_of, block_of, record_write_refusal, record_written, renewed}
@@ -49,7 +49,7 @@ told (report.Refused n) sent keep = n
 
 -- a record of the other end is 15
 unfoldable pub start_of : ℕ → NumberRecord → Start
-start_of end r = if eqb (end_of r) end then record { refusal = 0; number = number_of r; block = block_of r } else record { refusal = 15; number = 0; block = 0 }
+start_of end r = when eqb (end_of r) end then record { refusal = 0; number = number_of r; block = block_of r } else record { refusal = 15; number = 0; block = 0 }
 
 -- a record of version 1 is carried to version 2 first
 abbrev pub start_in : ℕ → ReadRecord → Start
@@ -60,21 +60,21 @@ start_in end (read-record.Is r) = start_of end (renewed r)
 
 -- it is written where there are n bytes for it
 unfoldable pub length_refusal : ℕ → List ℕ → ℕ
-length_refusal n s = if eqb (length s) n then 0 else 2
+length_refusal n s = when eqb (length s) n then 0 else 2
 
 unfoldable pub written : ℕ → List ℕ → List ℕ → List ℕ
-written n s bytes = if eqb (length s) n then bytes else s
+written n s bytes = when eqb (length s) n then bytes else s
 
 -- a start after power loss, from the end's own number record: 2, then 12 to 15
 unfoldable pub start_refusal : ℕ → List ℕ → Start → ℕ
-start_refusal n s l = if eqb (length s) n then l.refusal else 2
+start_refusal n s l = when eqb (length s) n then l.refusal else 2
 
 unfoldable pub started : ℕ → List ℕ → Start → List ℕ → List ℕ
-started n s l bytes = if eqb (start_refusal n s l) 0 then bytes else s
+started n s l bytes = when eqb (start_refusal n s l) 0 then bytes else s
 
 -- the number record of a state that is well formed or not: 2, then 12
 unfoldable pub state_record_refusal : Bool → NumberRecord → List ℕ → ℕ
-state_record_refusal ok r out = if ok then record_write_refusal (length out) r else 2
+state_record_refusal ok r out = when ok then record_write_refusal (length out) r else 2
 
 unfoldable pub state_record_put : Bool → NumberRecord → List ℕ → List ℕ
-state_record_put ok r out = if ok then record_written out r else out
+state_record_put ok r out = when ok then record_written out r else out

@@ -1,6 +1,6 @@
 // A bench in C's hands: its state is 62 bytes that the caller keeps beside its two tables.
 ghost use Rattle.std.specs.Prelude.{◌≡◌, ◌%◌, length};
-ghost use Rattle.ground.specs.Choice.{if◌then◌else◌};
+ghost use Rattle.ground.specs.Choice.{when◌then◌else◌};
 ghost use Rattle.boundary.specs.State.{is_refusal, written};
 ghost use Rattle.boundary.specs.Benches.{bench_bytes, parts_at, no_bench, bench_at};
 ghost use Rattle.boundary.specs.Benches.{fresh_put, step_put, show_to, show_at, offset_at};
@@ -78,7 +78,7 @@ fn put_bench(state: &mut [u8], b: Bench)
 
 // A refusal leaves the state.
 fn keep(state: &mut [u8], report: Report, after: Bench)
-    ensures { state.new ≡ (if is_refusal report then state.old else written 62 state.old (bench_bytes after)) }
+    ensures { state.new ≡ (when is_refusal report then state.old else written 62 state.old (bench_bytes after)) }
 {
     if is_refusal(report) {
         return;

@@ -1,6 +1,6 @@
 // A console in C's hands: its state is 37 bytes that the caller keeps.
 ghost use Rattle.std.specs.Prelude.{◌≡◌, [], ◌∷◌, ◌++◌, length, drop};
-ghost use Rattle.ground.specs.Choice.{if◌then◌else◌};
+ghost use Rattle.ground.specs.Choice.{when◌then◌else◌};
 ghost use Rattle.wire.specs.Number.{bytes_of};
 ghost use Rattle.ends_console.specs.Fields.{fresh_console, console_ok};
 ghost use Rattle.boundary.specs.State.{flag, is_refusal, length_refusal, written, start_refusal, started, state_record_refusal, state_record_put};
@@ -154,7 +154,7 @@ pub extern "C" fn nooseless_console_record(state: &[u8], out: &mut [u8]) -> u8
 
 // A refusal leaves the state.
 fn keep(state: &mut [u8], report: Report, after: Console)
-    ensures { state.new ≡ (if is_refusal report then state.old else written 37 state.old (console_bytes after)) }
+    ensures { state.new ≡ (when is_refusal report then state.old else written 37 state.old (console_bytes after)) }
 {
     if is_refusal(report) {
         return;

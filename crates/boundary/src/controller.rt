@@ -1,6 +1,6 @@
 // A controller in C's hands: its state is 23 bytes that the caller keeps.
 ghost use Rattle.std.specs.Prelude.{◌≡◌, [], ◌∷◌, ◌++◌, length};
-ghost use Rattle.ground.specs.Choice.{if◌then◌else◌};
+ghost use Rattle.ground.specs.Choice.{when◌then◌else◌};
 ghost use Rattle.wire.specs.Number.{bytes_of};
 ghost use Rattle.ends_controller.specs.Fields.{fresh_controller, controller_ok};
 ghost use Rattle.boundary.specs.State.{flag, is_refusal, length_refusal, written, start_refusal, started, state_record_refusal, state_record_put};
@@ -135,7 +135,7 @@ pub extern "C" fn nooseless_controller_record(state: &[u8], out: &mut [u8]) -> u
 
 // A refusal leaves the state.
 fn keep(state: &mut [u8], report: Report, after: Controller)
-    ensures { state.new ≡ (if is_refusal report then state.old else written 23 state.old (controller_bytes after)) }
+    ensures { state.new ≡ (when is_refusal report then state.old else written 23 state.old (controller_bytes after)) }
 {
     if is_refusal(report) {
         return;

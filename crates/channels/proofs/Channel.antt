@@ -9,7 +9,7 @@ use borrow.Author.Tests.{le-leb}
 use lib.ListN.{length, take, drop, replicate, length-append, length-drop, length-replicate, take-append-drop}
 use lib.Seq.{take_at, drop_at, take-add}
 use Rattle.ground.specs.Bytes.{Bytes}
-use Rattle.ground.specs.Choice.{if◌then◌else◌}
+use Rattle.ground.specs.Choice.{when◌then◌else◌}
 use Rattle.ground.specs.Every.{filled}
 use Rattle.ground.specs.Lists.{at, without, All, Opt}
 use Rattle.ground.proofs.Bytes.{bytes_take, bytes_drop}
@@ -92,7 +92,7 @@ module _ {A : Type 0} {dir : Direction} {packet : A → Packet} {bytes : A → L
   same_copies (suc n) p = λ i. sym (code.same p) i ++ same_copies n p i
 
   pub added_is : (ps : List A) (n : ℕ) (p : A) → All Ok ps → Ok p → length ps + n ≤ 64 → added (channel bytes ps) (length ps) n (packet p) ≡ channel bytes (ps ++ replicate n p)
-  unfolding added channel if◌then◌else◌
+  unfolding added channel when◌then◌else◌
   added_is ps n p h o k =
       let c = length ps in
       let m = 2048 - (c + n) * 32 in

@@ -1,6 +1,6 @@
 -- A channel: a table of packets of one direction. When it is well formed, and what adding makes of it. Assumes nothing.
 use Rattle.std.specs.Prelude.{ℕ, zero, suc, ◌+◌, ◌*◌, Bool, true, false, ◌&&◌, List, ◌++◌, length, take, drop, replicate}
-use Rattle.ground.specs.Choice.{if◌then◌else◌}
+use Rattle.ground.specs.Choice.{when◌then◌else◌}
 use Rattle.ground.specs.Every.{filled}
 use Rattle.wire.specs.declared.Direction.{Direction}
 use Rattle.wire.specs.declared.Direction.TheVariants.{ToController, ToConsole}
@@ -51,4 +51,4 @@ with_copies t place n p = take (place * 32) t ++ (laid packet_bytes (replicate n
 
 -- copies go to the end, which is the place that the count names
 unfoldable pub added : List ℕ → ℕ → ℕ → Packet → List ℕ
-added t count copies p = if is_table (length t) (count + copies) && fits p then with_copies t count copies p else t
+added t count copies p = when is_table (length t) (count + copies) && fits p then with_copies t count copies p else t

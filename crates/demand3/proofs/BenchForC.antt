@@ -8,7 +8,7 @@ use native.Mathlib.Omega.{arith}
 use borrow.Author.Tests.{eq-eqb, ne_eqb}
 use lib.ListN.{length}
 use Rattle.ground.specs.Cell.{is_message}
-use Rattle.ground.specs.Choice.{if◌then◌else◌}
+use Rattle.ground.specs.Choice.{when◌then◌else◌}
 use Rattle.ground.proofs.Tests.{by_test}
 use Rattle.wire.specs.declared.I.{I}
 use Rattle.wire.specs.declared.J.{J}
@@ -58,7 +58,7 @@ module _ (b : Here) (w : WellFormed numbering is_message b.history) where
 
 -- the byte told says the report
 told_says : (r : Report) → ((n : ℕ) → r ≡ report.Refused n → (1 ≤ n) × (n ≤ 15)) → byte_says (told r false false) ≡ r
-unfolding byte_says marks if◌then◌else◌
+unfolding byte_says marks when◌then◌else◌
 told_says report.Nothing low = refl
 told_says report.Delivered low = refl
 told_says report.Ok low = refl
@@ -94,7 +94,7 @@ module _ (b : Here) (w : WellFormed numbering is_message b.history) (a : Action)
 
   -- the state that it leaves
   state_left : (v : Leaves b result) (d : List ℕ) → (step_put (kept b) a (out b) (back b) d).state ≡ kept v.after
-  unfolding if◌then◌else◌
+  unfolding when◌then◌else◌
   state_left v d =
       let r = through.outcome.report in
       by_test (is_refusal r)
@@ -135,11 +135,11 @@ module _ (j : J) (i : I) (s out₀ back₀ : List ℕ) (p : j.0 < 2 ^ 32) (q : i
   b = fresh_rules j i
 
   fresh_put_lem : fresh_put j i s out₀ back₀ ≡ record { told = 0; state = kept b; out = out b; back = back b }
-  unfolding fresh_put bench_fresh bench_told state.written marks if◌then◌else◌
+  unfolding fresh_put bench_fresh bench_told state.written marks when◌then◌else◌
   fresh_put_lem = rw (eq-eqb (length s) 62 k, eq-eqb (length out₀) 2048 m, eq-eqb (length back₀) 2048 n)
 
   fresh_told : fresh_outcomes j i out₀ back₀ (actions_of l) ≡ outcomes (bench_back b) (out b) (back b) (actions_of l)
-  unfolding fresh_outcomes bench_fresh bench_told if◌then◌else◌
+  unfolding fresh_outcomes bench_fresh bench_told when◌then◌else◌
   fresh_told = rw (eq-eqb (length out₀) 2048 m, eq-eqb (length back₀) 2048 n)
 
   fresh_ok : WellFormed numbering is_message b.history

@@ -10,7 +10,7 @@ use lib.ListN.{length}
 use lib.Dec.{eqb, leb}
 use borrow.Author.Tests.{eqb-true, eq-eqb, ne_eqb, leb-true, not-false}
 use Rattle.ground.specs.Cell.{is_message}
-use Rattle.ground.specs.Choice.{if◌then◌else◌}
+use Rattle.ground.specs.Choice.{when◌then◌else◌}
 use Rattle.ground.specs.First.{first}
 use Rattle.ground.proofs.Tests.{and_left, and_right}
 use Rattle.wire.specs.Number.{bytes_of}
@@ -81,7 +81,7 @@ module _ (n : ℕ) (h : Refusal n) where
   bare = rw (div-eq_of_lt {n = n} {m = 64} (omega (arith, h.1)), mod-eq_of_lt h.1) (add-zero n)
 
   byte_refuses : byte_says n ≡ report.Refused n
-  unfolding byte_says if◌then◌else◌
+  unfolding byte_says when◌then◌else◌
   byte_refuses =
       rw (ne_eqb n 0 above, ne_eqb n 64 (λ e. omega (arith, e, h.1)), ne_eqb n 65 (λ e. omega (arith, e, h.1)), ne_eqb n 66 (λ e. omega (arith, e, h.1)))
 
@@ -97,7 +97,7 @@ by_marks P a b c d false true = c
 by_marks P a b c d false false = d
 
 says_told : (r : Report) (sent keep : Bool) → is_refusal r ≡ false → report_told (told r sent keep) ≡ r
-unfolding report_told byte_says marks if◌then◌else◌
+unfolding report_told byte_says marks when◌then◌else◌
 says_told report.Nothing sent keep e = by_marks (λ s k. report_told (told report.Nothing s k) ≡ report.Nothing) refl refl refl refl sent keep
 says_told report.Delivered sent keep e = by_marks (λ s k. report_told (told report.Delivered s k) ≡ report.Delivered) refl refl refl refl sent keep
 says_told report.Ok sent keep e = by_marks (λ s k. report_told (told report.Ok s k) ≡ report.Ok) refl refl refl refl sent keep
@@ -116,7 +116,7 @@ old_is_fresh n = (refl, refl)
 
 -- a record of either version holds its numbers
 record_holds : (end : ℕ) (r : NumberRecord) → end_of r ≡ end → number_of r < 2 ^ 32 → is_good r ≡ true → Holds end (record_bytes r) (numbers_of r)
-unfolding start_of if◌then◌else◌
+unfolding start_of when◌then◌else◌
 record_holds end r e h g = ap (start_in end) (record_read_back r h g) ∙ rw (eq-eqb (end_of (renewed r)) end (renewed_end r ∙ e))
 
 -- ## One law for both ends
@@ -158,7 +158,7 @@ module _ {s : Side numbering} {F : Kind} {R : Runs s F} (I : InBytes R) where
 
     -- the entry writes it
     record_put_lem : state_record_put true (I.record_of n) buffer ≡ record_bytes (I.record_of n)
-    unfolding state_record_put record_written record_write_refusal first if◌then◌else◌
+    unfolding state_record_put record_written record_write_refusal first when◌then◌else◌
     record_put_lem = rw (good, I.new n)
 
     own_holds : Holds I.end (record_bytes (I.record_of n)) n
@@ -167,8 +167,8 @@ module _ {s : Side numbering} {F : Kind} {R : Runs s F} (I : InBytes R) where
         ∙ rw (I.same n, I.numbered n, I.blocked n)
 
     -- a record is kept where it has changed: what is kept then holds the numbers after the step
-    kept_holds : (before : Numbers) (kept : List ℕ) (keep : Bool) → keep ≡ changed before n → Holds I.end kept before → Holds I.end (if keep then state_record_put true (I.record_of n) buffer else kept) n
-    unfolding if◌then◌else◌
+    kept_holds : (before : Numbers) (kept : List ℕ) (keep : Bool) → keep ≡ changed before n → Holds I.end kept before → Holds I.end (when keep then state_record_put true (I.record_of n) buffer else kept) n
+    unfolding when◌then◌else◌
     kept_holds before kept true e h = rw record_put_lem own_holds
     kept_holds before kept false e h =
         let r = eqb before.reserved n.reserved in
@@ -184,7 +184,7 @@ module _ {s : Side numbering} {F : Kind} {R : Runs s F} (I : InBytes R) where
     byte r sent y = told r sent (changed (I.numbers x) (I.numbers y))
 
     abbrev left : Report → F.End → List ℕ
-    left r y = if is_refusal r then I.bytes x else state.written I.size (I.bytes x) (I.bytes y)
+    left r y = when is_refusal r then I.bytes x else state.written I.size (I.bytes x) (I.bytes y)
 
     abbrev keeps : Report → Bool → F.End → List ℕ → List ℕ
     keeps r sent y kept = record_kept (byte r sent y) (I.okay (I.at (left r y))) (I.record_of (I.numbers (I.at (left r y)))) kept
@@ -197,12 +197,12 @@ module _ {s : Side numbering} {F : Kind} {R : Runs s F} (I : InBytes R) where
       pub stays : (n : ℕ) → r ≡ report.Refused n → (kept : List ℕ) → keeps r sent y kept ≡ kept
 
     refused_told : (n : ℕ) → Refusal n → EntryTells (report.Refused n) false x
-    unfolding record_kept if◌then◌else◌
+    unfolding record_kept when◌then◌else◌
     refused_told n h =
         record { says = refusal_says n h; sends = refusal_sends n h; leaves = refl; holds = λ kept k. rw (refusal_keeps n h) k; stays = λ m e kept. rw (refusal_keeps n h) }
 
     carried_told : (r : Report) (sent : Bool) (y : F.End) → is_refusal r ≡ false → (I.okay y ≡ true) × I.Typed y → EntryTells r sent y
-    unfolding record_kept state.written if◌then◌else◌
+    unfolding record_kept state.written when◌then◌else◌
     carried_told r sent y e h =
         let keep = changed (I.numbers x) (I.numbers y) in
         let long = eq-eqb (length (I.bytes x)) I.size (I.long x typed) in
@@ -231,7 +231,7 @@ module _ {s : Side numbering} {F : Kind} {R : Runs s F} (I : InBytes R) where
       let d = F.step z c in
       record {
         told = told (F.report d) (F.sends d) (changed (I.numbers z) (I.numbers (F.left d)));
-        state = if is_refusal (F.report d) then bytes else state.written I.size bytes (I.bytes (F.left d));
+        state = when is_refusal (F.report d) then bytes else state.written I.size bytes (I.bytes (F.left d));
         reply = F.reply d;
         delivered = I.delivered d c;
       }
@@ -250,7 +250,7 @@ module _ {s : Side numbering} {F : Kind} {R : Runs s F} (I : InBytes R) where
   RecordHolds kept n = Holds I.end kept (numbers_back n)
 
   starts_so : (z : List ℕ) (e : s.E) (kept : List ℕ) (n : supply.Numbers) → Stands z e → s.Fine e → RecordHolds kept n → numbering.sound n ≡ true → Stands (kind_of.starts z kept) (s.downed (numbering.back n))
-  unfolding started start_refusal if◌then◌else◌
+  unfolding started start_refusal when◌then◌else◌
   starts_so z e kept n stands fine holds sound =
       (λ i. started I.size z (holds i) (I.bytes (I.downed (numbers_kept (holds i).number (holds i).block))))
       ∙ rw (eq-eqb (length z) I.size (ap length stands ∙ I.long (I.back e) (I.well e fine).1))

@@ -3,7 +3,7 @@
 use Rattle.std.specs.Prelude.{ℕ, ◌≡◌, true, false, List, [], ◌∷◌, map, eqb}
 use Rattle.std.proofs.Math.Option
 use Rattle.ground.specs.Cell.{is_message}
-use Rattle.ground.specs.Choice.{if◌then◌else◌}
+use Rattle.ground.specs.Choice.{when◌then◌else◌}
 use Rattle.wire.specs.declared.I.{I}
 use Rattle.wire.specs.declared.J.{J}
 use Rattle.rules.specs.Supply.{numbering, fresh_numbers}
@@ -41,10 +41,10 @@ fresh_calls j i s out back l = let p = fresh_put j i s out back in calls p.state
 -- the report that a byte returned says: 0 nothing, 64 delivered, 65 OK, 66 lost; any other is a refusal
 unfoldable pub byte_says : ℕ → Report
 byte_says t =
-    if eqb t 0 then report.Nothing
-    else if eqb t 64 then report.Delivered
-    else if eqb t 65 then report.Ok
-    else if eqb t 66 then report.Lost
+    when eqb t 0 then report.Nothing
+    else when eqb t 64 then report.Delivered
+    else when eqb t 65 then report.Ok
+    else when eqb t 66 then report.Lost
     else report.Refused t
 
 -- the row that each call shows, by what C handed in and sees

@@ -3,7 +3,7 @@
 -- calls. Assumes nothing.
 use Rattle.std.specs.Prelude.{ℕ, ◌+◌, ◌*◌, ◌/◌, ◌%◌, ◌<◌, ◌^◌, ◌≡◌, Bool, true, false, List, [], replicate, eqb}
 use Rattle.ground.specs.Cell.{spaces}
-use Rattle.ground.specs.Choice.{if◌then◌else◌}
+use Rattle.ground.specs.Choice.{when◌then◌else◌}
 use Rattle.wire.specs.Record.{end_of, number_of, block_of, is_good, record_bytes, renewed}
 use Rattle.wire.specs.declared.NumberRecord.{NumberRecord}
 use Rattle.rules.specs.Supply.{numbering}
@@ -42,7 +42,7 @@ buffer = replicate 16 0
 
 -- of an end that is well formed or not, and its record
 unfoldable pub record_kept : ℕ → Bool → NumberRecord → List ℕ → List ℕ
-record_kept t ok r kept = if keep_told t then state_record_put ok r buffer else kept
+record_kept t ok r kept = when keep_told t then state_record_put ok r buffer else kept
 
 -- ## What runs in them: each end's state, 37 and 23 bytes, and its number record as it is kept, 16 bytes, or 12 until the first is kept
 

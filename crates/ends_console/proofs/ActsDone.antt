@@ -4,7 +4,7 @@ use mathlib.Core.Path.{◌≡◌, refl, ap, ◌∙◌}
 use mathlib.Core.Bool.{Bool, true, false}
 use mathlib.Core.Option.{Option, none}
 use lib.Dec.{eqb}
-use Rattle.ground.specs.Choice.{if◌then◌else◌}
+use Rattle.ground.specs.Choice.{when◌then◌else◌}
 use Rattle.ground.specs.First.{refusal}
 use Rattle.wire.specs.declared.J.{J}
 use Rattle.rules.specs.Supply.{numbering}
@@ -42,11 +42,11 @@ drops_so m h = h ∙ λ i. record { numbers = Stay; mode = same_mode m i; report
 
 module _ (m : Mode) (next : J) {z : Bool} (e : z ≡ eqb next.0 0) where
   pub puts_none : {x : Turn} → z ≡ true → x ≡ record { numbers = Stay; mode = m; report = report.Nothing; sent = for-controller.Nothing } → x ≡ turn (rules.puts (given next.0) (mode m) tt)
-  unfolding given if◌then◌else◌ rules.puts
+  unfolding given when◌then◌else◌ rules.puts
   puts_none y h = rw (← e, y) (drops_so m h)
 
   pub puts_one : z ≡ false → record { numbers = Take; mode = NeedI next; report = report.Nothing; sent = for-controller.Nothing } ≡ turn (rules.puts (given next.0) (mode m) tt)
-  unfolding given if◌then◌else◌ rules.puts
+  unfolding given when◌then◌else◌ rules.puts
   puts_one n = rw (← e, n)
 
 -- nothing came, or a packet

@@ -7,7 +7,7 @@ use mathlib.Core.Option.{Option, none, some}
 use native.Mathlib.Omega.{arith}
 use lib.Dec.{eqb}
 use borrow.Author.Tests.{eq-eqb, ne_eqb, not-true, not-false}
-use Rattle.ground.specs.Choice.{if◌then◌else◌}
+use Rattle.ground.specs.Choice.{when◌then◌else◌}
 use Rattle.ground.specs.First.{first, refusal, applies}
 use Rattle.ground.proofs.Tests.{by_test}
 use Rattle.wire.specs.declared.J.{J}
@@ -49,11 +49,11 @@ module _ (m : Mode) (up good : Bool) (next : J) (act : rules.ConsoleAct Beside) 
   stepped = decided (rules.console_step offered (tested good) (on_offer m up next) act)
 
   pub refuses_so : {n : ℕ} {x : Decided} → n ≡ number → (n ≡ 0 → ⊥) → x ≡ refusing n m up → x ≡ stepped
-  unfolding rules.console_step if◌then◌else◌
+  unfolding rules.console_step when◌then◌else◌
   refuses_so {n} p z h = h ∙ (λ i. refusing n (same_mode m i) up) ∙ rw (← p, ne_eqb n 0 z)
 
   does_so : {x : Decided} → number ≡ 0 → x ≡ decided (rules.console_acts offered (on_offer m up next) act) → x ≡ stepped
-  unfolding rules.console_step if◌then◌else◌
+  unfolding rules.console_step when◌then◌else◌
   does_so z h = h ∙ rw (eq-eqb number 0 z)
 
   turns_so : {t : Turn} {x : Decided} → number ≡ 0 → rules.console_power act ≡ rules.same → t ≡ turn (rules.console_turn (given next.0) (mode m) act) → x ≡ turning t up → x ≡ stepped
@@ -78,11 +78,11 @@ module _ (m : Mode) (up good : Bool) (next : J) where
 
 module _ (m : Mode) (up : Bool) (sent : ForController) {n : ℕ} {x : Decided} (p : n ≡ first (rules.down_4 up ∷ rules.mode_6 (for_controller sent) ∷ [])) where
   pub send_refuses : (n ≡ 0 → ⊥) → x ≡ refusing n m up → x ≡ sends m up sent
-  unfolding sends if◌then◌else◌
+  unfolding sends when◌then◌else◌
   send_refuses z h = h ∙ rw (← p, ne_eqb n 0 z)
 
   pub send_turns : n ≡ 0 → x ≡ staying m up sent → x ≡ sends m up sent
-  unfolding sends if◌then◌else◌
+  unfolding sends when◌then◌else◌
   send_turns z h = h ∙ rw (← p, eq-eqb n 0 z)
 
 -- what is sent, as the code has it, is what the rules send
@@ -96,10 +96,10 @@ same_for_controller (some (rules.done i)) = refl
 sending : (m : Mode) (up : Bool) (next : J) (sent : Option (rules.ToController Beside)) →
     sends m up (for_controller_back sent)
     ≡ decided
-    (if eqb (first (rules.down_4 up ∷ rules.mode_6 sent ∷ [])) 0
+    (when eqb (first (rules.down_4 up ∷ rules.mode_6 sent ∷ [])) 0
     then record { report = rules.nothing; sent = sent; after = on_offer m up next }
     else record { report = rules.refused (first (rules.down_4 up ∷ rules.mode_6 sent ∷ [])); sent = none; after = on_offer m up next })
-unfolding sends if◌then◌else◌ first applies rules.absent
+unfolding sends when◌then◌else◌ first applies rules.absent
 sending m true next none = λ i. refusing 6 (same_mode m i) true
 sending m true next (some p) = λ i. staying (same_mode m i) true (for-controller.Packet (to_controller_back p))
 sending m false next none = λ i. refusing 4 (same_mode m i) false
@@ -113,18 +113,18 @@ module _ (m : Mode) (up good : Bool) (next : J) (p : ForConsole) where
   decides_put f h = rw f h
 
   pub decides_need_i : {a : ConsoleAsk} {s : ForController} {x : Decided} → a ≡ ask.SendNeedI → s ≡ for_controller_back (rules.need_i_sent (mode m)) → x ≡ sends m up s → x ≡ step_of a
-  unfolding rules.console_step rules.console_rules refusal first applies if◌then◌else◌ rules.console_acts rules.console_turn rules.end_after rules.numbers_after rules.up_after
+  unfolding rules.console_step rules.console_rules refusal first applies when◌then◌else◌ rules.console_acts rules.console_turn rules.end_after rules.numbers_after rules.up_after
   decides_need_i f g h = rw f (h ∙ ap (λ (y : ForController). sends m up y) g ∙ sending m up next (rules.need_i_sent (mode m)))
 
   pub decides_data : {a : ConsoleAsk} {s : ForController} {x : Decided} → a ≡ ask.SendData → s ≡ for_controller_back (rules.data_sent (mode m)) → x ≡ sends m up s → x ≡ step_of a
-  unfolding rules.console_step rules.console_rules refusal first applies if◌then◌else◌ rules.console_acts rules.console_turn rules.end_after rules.numbers_after rules.up_after
+  unfolding rules.console_step rules.console_rules refusal first applies when◌then◌else◌ rules.console_acts rules.console_turn rules.end_after rules.numbers_after rules.up_after
   decides_data f g h = rw f (h ∙ ap (λ (y : ForController). sends m up y) g ∙ sending m up next (rules.data_sent (mode m)))
 
   pub decides_take : {a : ConsoleAsk} {x : Decided} → a ≡ ask.Take → ((n : J) (g : Bool) → x ≡ stepped m up g n (rules.ConsoleAct.take (for_console p))) → x ≡ step_of a
   decides_take f h = rw f (h next good)
 
   pub decides_down : {a : ConsoleAsk} {x : Decided} → a ≡ ask.GoDown → x ≡ staying m false for-controller.Nothing → x ≡ step_of a
-  unfolding rules.console_step rules.console_rules refusal first applies if◌then◌else◌ rules.console_acts rules.console_turn rules.end_after rules.numbers_after rules.up_after
+  unfolding rules.console_step rules.console_rules refusal first applies when◌then◌else◌ rules.console_acts rules.console_turn rules.end_after rules.numbers_after rules.up_after
   decides_down f h = rw f (h ∙ λ i. staying (same_mode m i) false for-controller.Nothing)
 
   pub decides_back : {a : ConsoleAsk} {x : Decided} → a ≡ ask.ComeBack → ((n : J) (g : Bool) → x ≡ stepped m up g n rules.ConsoleAct.come_back) → x ≡ step_of a
@@ -135,25 +135,25 @@ module _ (m : Mode) (up good : Bool) (next : J) (p : ForConsole) where
 
 module _ (m : Mode) (up : Bool) where
   pub take_4 : {x : Decided} (p : ForConsole) → not up ≡ true → x ≡ refusing 4 m up → (next : J) (good : Bool) → x ≡ stepped m up good next (rules.ConsoleAct.take (for_console p))
-  unfolding rules.console_rules refusal first applies if◌then◌else◌
+  unfolding rules.console_rules refusal first applies when◌then◌else◌
   take_4 p u h next good = refuses_so m up good next (rules.ConsoleAct.take (for_console p)) (rw (not-true up u)) (λ z. omega (arith, z)) h
 
   pub take_turns : {x : Decided} {t : Turn} (p : ForConsole) → not up ≡ false → ((n : Option ℕ) → t ≡ turn (rules.console_turn n (mode m) (rules.ConsoleAct.take (for_console p)))) → x ≡ turning t up
       → (next : J) (good : Bool) → x ≡ stepped m up good next (rules.ConsoleAct.take (for_console p))
-  unfolding rules.console_rules refusal first applies if◌then◌else◌
+  unfolding rules.console_rules refusal first applies when◌then◌else◌
   take_turns p u g h next good = turns_so m up good next (rules.ConsoleAct.take (for_console p)) (rw (not-false up u)) refl (g (given next.0)) h
 
   pub back_5 : {x : Decided} → up ≡ true → x ≡ refusing 5 m up → (next : J) (good : Bool) → x ≡ stepped m up good next rules.ConsoleAct.come_back
-  unfolding rules.console_rules refusal first applies if◌then◌else◌
+  unfolding rules.console_rules refusal first applies when◌then◌else◌
   back_5 u h next good = refuses_so m up good next rules.ConsoleAct.come_back (rw u) (λ z. omega (arith, z)) h
 
   pub back_turns : up ≡ false → (next : J) (good : Bool) → record { report = report.Nothing; sent = for-controller.Nothing; numbers = Back; mode = Idle; up = true } ≡ stepped m up good next rules.ConsoleAct.come_back
-  unfolding rules.console_step rules.console_rules refusal first applies if◌then◌else◌ rules.console_acts rules.console_turn rules.end_after rules.numbers_after rules.up_after
+  unfolding rules.console_step rules.console_rules refusal first applies when◌then◌else◌ rules.console_acts rules.console_turn rules.end_after rules.numbers_after rules.up_after
   back_turns u next good = rw u
 
   -- A
   telling : (next : J) (good : Bool) → first (rules.down_4 up ∷ (6, rules.holding (mode m)) ∷ []) ≡ number m up good next rules.tell_ack
-  unfolding rules.console_rules refusal first applies if◌then◌else◌
+  unfolding rules.console_rules refusal first applies when◌then◌else◌
   telling next good = by_test up (λ u. rw u) (λ u. rw u)
 
   pub tell_refuses : {n : ℕ} {x : Decided} → n ≡ first (rules.down_4 up ∷ (6, rules.holding (mode m)) ∷ []) → (n ≡ 0 → ⊥) → x ≡ refusing n m up

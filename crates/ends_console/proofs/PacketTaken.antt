@@ -2,7 +2,7 @@
 use mathlib.Core.Path.{◌≡◌}
 use mathlib.Core.Bool.{Bool, true, false}
 use lib.Dec.{eqb}
-use Rattle.ground.specs.Choice.{if◌then◌else◌}
+use Rattle.ground.specs.Choice.{when◌then◌else◌}
 use Rattle.wire.specs.declared.I.{I}
 use Rattle.wire.specs.declared.J.{J}
 use Rattle.rules.specs.Ends as rules
@@ -31,20 +31,20 @@ module _ (m : Mode) (j : J) (i : I) where
 
   module _ {own : J} {z : Bool} (f : m ≡ NeedI own) (e : z ≡ eqb j.0 own.0) where
     pub offer_own : {x : Turn} → z ≡ true → x ≡ dropping (Send i) → x ≡ after_offer
-    unfolding rules.console_takes if◌then◌else◌
+    unfolding rules.console_takes when◌then◌else◌
     offer_own y h = rw (f, ← e, y) h
 
     pub offer_other_j : {x : Turn} → z ≡ false → x ≡ sending_done (NeedI own) i → x ≡ after_offer
-    unfolding rules.console_takes if◌then◌else◌
+    unfolding rules.console_takes when◌then◌else◌
     offer_other_j n h = rw (f, ← e, n) h
 
   module _ {last : I} {z : Bool} (f : m ≡ Send last) (e : z ≡ eqb i.0 last.0) where
     pub offer_again : {x : Turn} → z ≡ true → x ≡ dropping (Send last) → x ≡ after_offer
-    unfolding rules.console_takes if◌then◌else◌
+    unfolding rules.console_takes when◌then◌else◌
     offer_again y h = rw (f, ← e, y) h
 
     pub offer_other_i : {x : Turn} → z ≡ false → x ≡ sending_done (Send last) i → x ≡ after_offer
-    unfolding rules.console_takes if◌then◌else◌
+    unfolding rules.console_takes when◌then◌else◌
     offer_other_i n h = rw (f, ← e, n) h
 
 pub ruleset offers = (offer_idle, offer_own, offer_other_j, offer_again, offer_other_i)
@@ -63,11 +63,11 @@ module _ (m : Mode) (i : I) where
 
   module _ {last : I} {z : Bool} (f : m ≡ Send last) (e : z ≡ eqb i.0 last.0) where
     pub ok_last : z ≡ true → record { numbers = Stay; mode = Idle; report = report.Ok; sent = for-controller.Packet (Done i) } ≡ after_ok
-    unfolding rules.console_takes if◌then◌else◌
+    unfolding rules.console_takes when◌then◌else◌
     ok_last y = rw (f, ← e, y)
 
     pub ok_other : {x : Turn} → z ≡ false → x ≡ sending_done (Send last) i → x ≡ after_ok
-    unfolding rules.console_takes if◌then◌else◌
+    unfolding rules.console_takes when◌then◌else◌
     ok_other n h = rw (f, ← e, n) h
 
 pub ruleset oks = (ok_idle, ok_need_i, ok_last, ok_other)
@@ -86,11 +86,11 @@ module _ (m : Mode) (i : I) where
 
   module _ {last : I} {z : Bool} (f : m ≡ Send last) (e : z ≡ eqb i.0 last.0) where
     pub lost_last : z ≡ true → record { numbers = Stay; mode = Idle; report = report.Lost; sent = for-controller.Nothing } ≡ after_lost
-    unfolding rules.console_takes if◌then◌else◌
+    unfolding rules.console_takes when◌then◌else◌
     lost_last y = rw (f, ← e, y)
 
     pub lost_other : {x : Turn} → z ≡ false → x ≡ dropping (Send last) → x ≡ after_lost
-    unfolding rules.console_takes if◌then◌else◌
+    unfolding rules.console_takes when◌then◌else◌
     lost_other n h = rw (f, ← e, n) h
 
 pub ruleset losts = (lost_idle, lost_need_i, lost_last, lost_other)

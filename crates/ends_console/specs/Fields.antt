@@ -2,7 +2,7 @@
 use Rattle.std.specs.Prelude.{ℕ, Bool, true, false, not, ◌&&◌, List, eqb}
 use Rattle.ground.specs.Cell.{is_message, spaces}
 use Rattle.ground.specs.Every.{filled}
-use Rattle.ground.specs.Choice.{if◌then◌else◌}
+use Rattle.ground.specs.Choice.{when◌then◌else◌}
 use Rattle.wire.specs.declared.I.{I}
 use Rattle.wire.specs.declared.J.{J}
 use Rattle.rules.specs.Supply.{numbering}
@@ -21,21 +21,21 @@ use Rattle.ends_console.specs.declared.fields.ModeRead.TheVariants as mode-read
 -- message is 16 spaces
 abbrev pub variables_fit : Bool → List ℕ → J → I → Bool
 variables_fit held message j last =
-    if held
-    then is_message message && (if eqb j.0 0 then not (eqb last.0 0) else eqb last.0 0)
+    when held
+    then is_message message && (when eqb j.0 0 then not (eqb last.0 0) else eqb last.0 0)
     else eqb j.0 0 && eqb last.0 0 && filled 0x20 message
 
 -- idle, needI (j set), send (last set)
 abbrev pub variables_mode : Bool → J → I → Mode
-variables_mode held j last = if held then (if eqb j.0 0 then Send last else NeedI j) else Mode.Idle
+variables_mode held j last = when held then (when eqb j.0 0 then Send last else NeedI j) else Mode.Idle
 
 unfoldable pub mode_read : Bool → List ℕ → J → I → ModeRead
 mode_read held message j last =
-    if variables_fit held message j last then mode-read.Is (variables_mode held j last) else mode-read.IllFormed
+    when variables_fit held message j last then mode-read.Is (variables_mode held j last) else mode-read.IllFormed
 
 -- j is not set, or one of its own numbers
 abbrev pub own_or_none : Numbers → J → Bool
-own_or_none u j = if eqb j.0 0 then true else numbering.used (numbers_means u) j.0
+own_or_none u j = when eqb j.0 0 then true else numbering.used (numbers_means u) j.0
 
 -- its numbers are sound: last used at most reserved, a block of 1 to 1,024. Its variables fit, and j is one of its own numbers. Any ack is well formed
 unfoldable pub console_ok : Console → Bool
@@ -50,7 +50,7 @@ abbrev pub console_end : Console → End
 console_end c = record { numbers = c.numbers; mode = console_mode c; up = c.up }
 
 unfoldable pub console_read : Console → ConsoleRead
-console_read c = if console_ok c then console-read.Is (console_end c) else console-read.IllFormed
+console_read c = when console_ok c then console-read.Is (console_end c) else console-read.IllFormed
 
 -- document 01's number of each case
 abbrev pub console_read_refusal : ConsoleRead → ℕ

@@ -4,7 +4,7 @@ use mathlib.Core.Path.{◌≡◌, refl, ap, ◌∙◌}
 use mathlib.Core.Bool.{Bool, true, false, not}
 use mathlib.Core.Option.{Option, none}
 use lib.Dec.{eqb}
-use Rattle.ground.specs.Choice.{if◌then◌else◌}
+use Rattle.ground.specs.Choice.{when◌then◌else◌}
 use Rattle.ground.specs.First.{first, refusal, applies}
 use Rattle.wire.specs.declared.I.{I}
 use Rattle.wire.specs.declared.J.{J}
@@ -50,11 +50,11 @@ module _ (own : J) (next : I) where
   needed m = turn (rules.controller_takes (given next.0) (mode m) (rules.need_i own.0))
 
   pub need_i_spent : {m : Mode} {z : Bool} {x : Turn} → m ≡ Idle → z ≡ eqb next.0 0 → z ≡ true → x ≡ dropping Idle → x ≡ needed m
-  unfolding given if◌then◌else◌ rules.controller_takes
+  unfolding given when◌then◌else◌ rules.controller_takes
   need_i_spent f e y h = rw (f, ← e, y) h
 
   pub need_i_next : {m : Mode} {z : Bool} → m ≡ Idle → z ≡ eqb next.0 0 → z ≡ false → record { numbers = Take; mode = Accept own next; report = report.Nothing; sent = for-console.Nothing } ≡ needed m
-  unfolding given if◌then◌else◌ rules.controller_takes
+  unfolding given when◌then◌else◌ rules.controller_takes
   need_i_next f e n = rw (f, ← e, n)
 
   pub need_i_accept : {m : Mode} {j : J} {i : I} {x : Turn} → m ≡ Accept j i → x ≡ dropping (Accept j i) → x ≡ needed m
@@ -120,16 +120,16 @@ module _ (e : End) (p : ForController) where
   take_refused = refusal (rules.controller_rules numbering (end e) (rules.ControllerAct.take (for_controller p)))
 
   pub take_4 : not e.up ≡ true → 4 ≡ take_refused
-  unfolding refusal first applies if◌then◌else◌ rules.controller_rules
+  unfolding refusal first applies when◌then◌else◌ rules.controller_rules
   take_4 u = rw u
 
   module _ {r : Bool} (u : not e.up ≡ false) (g : r ≡ rules.unknown (numbering.used (numbers_means e.numbers)) (for_controller p)) where
     pub take_7 : r ≡ true → 7 ≡ take_refused
-    unfolding refusal first applies if◌then◌else◌ rules.controller_rules
+    unfolding refusal first applies when◌then◌else◌ rules.controller_rules
     take_7 h = rw (u, ← g, h)
 
     pub take_0 : r ≡ false → 0 ≡ take_refused
-    unfolding refusal first applies if◌then◌else◌ rules.controller_rules
+    unfolding refusal first applies when◌then◌else◌ rules.controller_rules
     take_0 h = rw (u, ← g, h)
 
 pub ruleset take_refusals = (take_4, take_7, take_0)

@@ -7,7 +7,7 @@ use mathlib.Core.Option.{Option, none, some}
 use native.Mathlib.Omega.{arith}
 use lib.Dec.{eqb}
 use borrow.Author.Tests.{eq-eqb, ne_eqb}
-use Rattle.ground.specs.Choice.{if◌then◌else◌}
+use Rattle.ground.specs.Choice.{when◌then◌else◌}
 use Rattle.ground.specs.First.{first, refusal, applies}
 use Rattle.wire.specs.declared.I.{I}
 use Rattle.rules.specs.Offered.{offered}
@@ -50,11 +50,11 @@ module _ (m : Mode) (up : Bool) (next : I) (act : rules.ControllerAct Beside) wh
   stepped = decided (rules.controller_step offered (on_offer m up next) act)
 
   pub refuses_so : {n : ℕ} {x : Decided} → n ≡ number → (n ≡ 0 → ⊥) → x ≡ refusing n m up → x ≡ stepped
-  unfolding rules.controller_step if◌then◌else◌
+  unfolding rules.controller_step when◌then◌else◌
   refuses_so {n} p z h = h ∙ (λ i. refusing n (same_mode m i) up) ∙ rw (← p, ne_eqb n 0 z)
 
   does_so : {x : Decided} → number ≡ 0 → x ≡ decided (rules.controller_acts offered (on_offer m up next) act) → x ≡ stepped
-  unfolding rules.controller_step if◌then◌else◌
+  unfolding rules.controller_step when◌then◌else◌
   does_so z h = h ∙ rw (eq-eqb number 0 z)
 
   turns_so : {t : Turn} {x : Decided} → number ≡ 0 → rules.controller_power act ≡ rules.same → t ≡ turn (rules.controller_turn (given next.0) (mode m) act) → x ≡ turning t up → x ≡ stepped
@@ -71,11 +71,11 @@ module _ (m : Mode) (up : Bool) (next : I) (act : rules.ControllerAct Beside) wh
 
 module _ (m : Mode) (up : Bool) (sent : ForConsole) {n : ℕ} {x : Decided} (p : n ≡ first (rules.down_4 up ∷ rules.mode_6 (for_console sent) ∷ [])) where
   pub send_refuses : (n ≡ 0 → ⊥) → x ≡ refusing n m up → x ≡ sends m up sent
-  unfolding sends if◌then◌else◌
+  unfolding sends when◌then◌else◌
   send_refuses z h = h ∙ rw (← p, ne_eqb n 0 z)
 
   pub send_turns : n ≡ 0 → x ≡ staying m up sent → x ≡ sends m up sent
-  unfolding sends if◌then◌else◌
+  unfolding sends when◌then◌else◌
   send_turns z h = h ∙ rw (← p, eq-eqb n 0 z)
 
 -- what is sent, as the code has it, is what the rules send
@@ -89,10 +89,10 @@ same_for_console (some (rules.lost i)) = refl
 sending : (m : Mode) (up : Bool) (next : I) (sent : Option rules.ToConsole) →
     sends m up (for_console_back sent)
     ≡ decided
-    (if eqb (first (rules.down_4 up ∷ rules.mode_6 sent ∷ [])) 0
+    (when eqb (first (rules.down_4 up ∷ rules.mode_6 sent ∷ [])) 0
     then record { report = rules.nothing; sent = sent; after = on_offer m up next }
     else record { report = rules.refused (first (rules.down_4 up ∷ rules.mode_6 sent ∷ [])); sent = none; after = on_offer m up next })
-unfolding sends if◌then◌else◌ first applies rules.absent
+unfolding sends when◌then◌else◌ first applies rules.absent
 sending m true next none = λ i. refusing 6 (same_mode m i) true
 sending m true next (some p) = λ i. staying (same_mode m i) true (for-console.Packet (to_console_back p))
 sending m false next none = λ i. refusing 4 (same_mode m i) false
@@ -103,18 +103,18 @@ module _ (m : Mode) (up : Bool) (next : I) (p : ForController) where
   step_of a = decided (rules.controller_step offered (on_offer m up next) (asked_to a p))
 
   pub decides_offer : {a : ControllerAsk} {s : ForConsole} {x : Decided} → a ≡ ask.SendOffer → s ≡ for_console_back (rules.offer_sent (mode m)) → x ≡ sends m up s → x ≡ step_of a
-  unfolding rules.controller_step rules.controller_rules refusal first applies if◌then◌else◌ rules.controller_acts rules.controller_turn rules.end_after rules.numbers_after rules.up_after
+  unfolding rules.controller_step rules.controller_rules refusal first applies when◌then◌else◌ rules.controller_acts rules.controller_turn rules.end_after rules.numbers_after rules.up_after
   decides_offer f g h = rw f (h ∙ ap (λ (y : ForConsole). sends m up y) g ∙ sending m up next (rules.offer_sent (mode m)))
 
   pub decides_ok : {a : ControllerAsk} {s : ForConsole} {x : Decided} → a ≡ ask.SendOk → s ≡ for_console_back (rules.ok_sent (mode m)) → x ≡ sends m up s → x ≡ step_of a
-  unfolding rules.controller_step rules.controller_rules refusal first applies if◌then◌else◌ rules.controller_acts rules.controller_turn rules.end_after rules.numbers_after rules.up_after
+  unfolding rules.controller_step rules.controller_rules refusal first applies when◌then◌else◌ rules.controller_acts rules.controller_turn rules.end_after rules.numbers_after rules.up_after
   decides_ok f g h = rw f (h ∙ ap (λ (y : ForConsole). sends m up y) g ∙ sending m up next (rules.ok_sent (mode m)))
 
   pub decides_take : {a : ControllerAsk} {x : Decided} → a ≡ ask.Take → x ≡ stepped m up next (rules.ControllerAct.take (for_controller p)) → x ≡ step_of a
   decides_take f h = rw f h
 
   pub decides_down : {a : ControllerAsk} {x : Decided} → a ≡ ask.GoDown → x ≡ staying m false for-console.Nothing → x ≡ step_of a
-  unfolding rules.controller_step rules.controller_rules refusal first applies if◌then◌else◌ rules.controller_acts rules.controller_turn rules.end_after rules.numbers_after rules.up_after
+  unfolding rules.controller_step rules.controller_rules refusal first applies when◌then◌else◌ rules.controller_acts rules.controller_turn rules.end_after rules.numbers_after rules.up_after
   decides_down f h = rw f (h ∙ λ i. staying (same_mode m i) false for-console.Nothing)
 
   pub decides_back : {a : ControllerAsk} {x : Decided} → a ≡ ask.ComeBack → ((n : I) → x ≡ stepped m up n rules.ControllerAct.come_back) → x ≡ step_of a
@@ -130,18 +130,18 @@ known (for-controller.Packet (to-controller.Done i)) = refl
 
 module _ (m : Mode) (up : Bool) where
   pub take_4 : {x : Decided} (p : ForController) (next : I) → not up ≡ true → x ≡ refusing 4 m up → x ≡ stepped m up next (rules.ControllerAct.take (for_controller p))
-  unfolding rules.controller_rules refusal first applies if◌then◌else◌
+  unfolding rules.controller_rules refusal first applies when◌then◌else◌
   take_4 p next u h = refuses_so m up next (rules.ControllerAct.take (for_controller p)) (rw u) (λ z. omega (arith, z)) h
 
   pub take_turns : {x : Decided} {t : Turn} (p : ForController) (next : I) → not up ≡ false → t ≡ turn (rules.controller_turn (given next.0) (mode m) (rules.ControllerAct.take (for_controller p))) → x ≡ turning t up
       → x ≡ stepped m up next (rules.ControllerAct.take (for_controller p))
-  unfolding rules.controller_rules refusal first applies if◌then◌else◌
+  unfolding rules.controller_rules refusal first applies when◌then◌else◌
   take_turns p next u g h = turns_so m up next (rules.ControllerAct.take (for_controller p)) (rw (u, known p)) refl g h
 
   pub back_5 : {x : Decided} → up ≡ true → x ≡ refusing 5 m up → (next : I) → x ≡ stepped m up next rules.ControllerAct.come_back
-  unfolding rules.controller_rules refusal first applies if◌then◌else◌
+  unfolding rules.controller_rules refusal first applies when◌then◌else◌
   back_5 u h next = refuses_so m up next rules.ControllerAct.come_back (rw u) (λ z. omega (arith, z)) h
 
   pub back_turns : up ≡ false → (next : I) → record { report = report.Nothing; sent = for-console.Nothing; numbers = Back; mode = Idle; up = true } ≡ stepped m up next rules.ControllerAct.come_back
-  unfolding rules.controller_step rules.controller_rules refusal first applies if◌then◌else◌ rules.controller_acts rules.controller_turn rules.end_after rules.numbers_after rules.up_after
+  unfolding rules.controller_step rules.controller_rules refusal first applies when◌then◌else◌ rules.controller_acts rules.controller_turn rules.end_after rules.numbers_after rules.up_after
   back_turns u next = rw u

@@ -6,7 +6,7 @@ use native.Mathlib.Omega.{arith}
 use borrow.Author.Tests.{ne_eqb, not-true, not-false, eqb-true, eqb-false}
 use lib.Dec.{eqb}
 use Rattle.ground.proofs.Tests.{by_test, and_left, and_right}
-use Rattle.ground.specs.Choice.{if◌then◌else◌}
+use Rattle.ground.specs.Choice.{when◌then◌else◌}
 use Rattle.wire.specs.declared.I.{I}
 use Rattle.rules.specs.Supply.{numbering}
 use Rattle.numbers.specs.Numbers.{numbers_means}
@@ -32,31 +32,31 @@ Sound u = numbering.sound (numbers_means u) ≡ true
 -- with i set
 module _ (j : J) (i l : I) {o p : Bool} (it : o ≡ eqb i.0 0) (set : o ≡ false) (jt : p ≡ eqb j.0 0) where
   pub no_j : p ≡ true → mode-read.IllFormed ≡ mode_read j i l
-  unfolding mode_read if◌then◌else◌
+  unfolding mode_read when◌then◌else◌
   no_j y = rw (← it, set, ← jt, y)
 
   module _ {q : Bool} (n : p ≡ false) (lt : q ≡ eqb l.0 0) where
     pub both : not q ≡ true → mode-read.IllFormed ≡ mode_read j i l
-    unfolding mode_read if◌then◌else◌
+    unfolding mode_read when◌then◌else◌
     both s = rw (← it, set, ← jt, n, ← lt, not-true q s)
 
     pub in_accept : not q ≡ false → mode-read.Is (Accept j i) ≡ mode_read j i l
-    unfolding mode_read if◌then◌else◌
+    unfolding mode_read when◌then◌else◌
     in_accept z = rw (← it, set, ← jt, n, ← lt, not-false q z)
 
 -- with none
 module _ (j : J) (i l : I) {o p : Bool} (it : o ≡ eqb i.0 0) (none : o ≡ true) (jt : p ≡ eqb j.0 0) where
   pub only_j : not p ≡ true → mode-read.IllFormed ≡ mode_read j i l
-  unfolding mode_read if◌then◌else◌
+  unfolding mode_read when◌then◌else◌
   only_j s = rw (← it, none, ← jt, not-true p s)
 
   module _ {q : Bool} (y : not p ≡ false) (lt : q ≡ eqb l.0 0) where
     pub is_idle : q ≡ true → mode-read.Is Idle ≡ mode_read j i l
-    unfolding mode_read if◌then◌else◌
+    unfolding mode_read when◌then◌else◌
     is_idle z = rw (← it, none, ← jt, not-false p y, ← lt, z)
 
     pub in_ack : q ≡ false → mode-read.Is (Ack l) ≡ mode_read j i l
-    unfolding mode_read if◌then◌else◌
+    unfolding mode_read when◌then◌else◌
     in_ack n = rw (← it, none, ← jt, not-false p y, ← lt, n)
 
 pub ruleset modes = (no_j, both, in_accept, only_j, is_idle, in_ack)
@@ -65,11 +65,11 @@ pub ruleset modes = (no_j, both, in_accept, only_j, is_idle, in_ack)
 
 module _ (u : Numbers) (i : I) {p : Bool} (it : p ≡ eqb i.0 0) where
   pub none_set : p ≡ true → true ≡ own_or_none u i
-  unfolding if◌then◌else◌
+  unfolding when◌then◌else◌
   none_set y = rw (← it, y)
 
   pub set_used : {o : Bool} → p ≡ false → o ≡ numbering.used (numbers_means u) i.0 → o ≡ own_or_none u i
-  unfolding if◌then◌else◌
+  unfolding when◌then◌else◌
   set_used n h = rw (← it, n) h
 
 -- ## The whole: numbers that are sound, variables that fit, numbers of its own
@@ -79,27 +79,27 @@ fit c = variables_fit c.j c.i c.last
 
 -- what the variables that were read are
 fitting : (j : J) (i l : I) {k : Mode} → mode-read.Is k ≡ mode_read j i l → (variables_fit j i l ≡ true) × (k ≡ variables_mode j i l)
-unfolding mode_read if◌then◌else◌
+unfolding mode_read when◌then◌else◌
 fitting j i l {k} h =
     by_test (variables_fit j i l)
     (λ t. let q : mode-read.Is k ≡ mode-read.Is (variables_mode j i l) = rw t at h in (t, cc))
     (λ f. let q : mode-read.Is k ≡ mode-read.IllFormed = rw f at h in let z : ◌≡◌ {A = ℕ} 1 0 = cc in absurd (omega (arith, z)))
 
 misfit : (j : J) (i l : I) → mode-read.IllFormed ≡ mode_read j i l → variables_fit j i l ≡ false
-unfolding mode_read if◌then◌else◌
+unfolding mode_read when◌then◌else◌
 misfit j i l h =
     by_test (variables_fit j i l)
     (λ t. let q : mode-read.IllFormed ≡ mode-read.Is (variables_mode j i l) = rw t at h in let z : ◌≡◌ {A = ℕ} 0 1 = cc in absurd (omega (arith, z)))
     (λ f. f)
 
 pub unsound : {s : Bool} (c : Controller) → s ≡ numbering.sound (numbers_means c.numbers) → not s ≡ true → IllFormed ≡ controller_read c
-unfolding controller_read controller_ok if◌then◌else◌
+unfolding controller_read controller_ok when◌then◌else◌
 unsound {s} c e n = rw (← e, not-true s n)
 
 module _ {s : Bool} {x : ModeRead} (c : Controller) (e : s ≡ numbering.sound (numbers_means c.numbers)) (n : not s ≡ false)
     (read : x ≡ mode_read c.j c.i c.last) where
   pub unfit : x ≡ mode-read.IllFormed → IllFormed ≡ controller_read c
-  unfolding controller_read controller_ok if◌then◌else◌
+  unfolding controller_read controller_ok when◌then◌else◌
   unfit h = rw (← e, not-false s n, misfit c.j c.i c.last (sym h ∙ read))
 
   module _ {o : Bool} {k : Mode} (h : x ≡ mode-read.Is k) (t : o ≡ own_or_none c.numbers c.i) where
@@ -107,16 +107,16 @@ module _ {s : Bool} {x : ModeRead} (c : Controller) (e : s ≡ numbering.sound (
     fits = fitting c.j c.i c.last (sym h ∙ read)
 
     pub i_not_its_own : not o ≡ true → IllFormed ≡ controller_read c
-    unfolding controller_read controller_ok if◌then◌else◌
+    unfolding controller_read controller_ok when◌then◌else◌
     i_not_its_own f = rw (← e, not-false s n, fits.0, ← t, not-true o f)
 
     module _ {v : Bool} (f : not o ≡ false) (w : v ≡ own_or_none c.numbers c.last) where
       pub last_not_its_own : not v ≡ true → IllFormed ≡ controller_read c
-      unfolding controller_read controller_ok if◌then◌else◌
+      unfolding controller_read controller_ok when◌then◌else◌
       last_not_its_own g = rw (← e, not-false s n, fits.0, ← t, not-false o f, ← w, not-true v g)
 
       pub well : not v ≡ false → Is (record { numbers = c.numbers; mode = k; up = c.up }) ≡ controller_read c
-      unfolding controller_read controller_ok controller_mode if◌then◌else◌
+      unfolding controller_read controller_ok controller_mode when◌then◌else◌
       well g = rw (← e, not-false s n, fits.0, ← t, not-false o f, ← w, not-false v g, fits.1)
 
 pub ruleset whole = (unsound, unfit, i_not_its_own, last_not_its_own, well)
@@ -148,11 +148,11 @@ abbrev none_i : I
 none_i = record { 0 = 0 }
 
 no_i : (j : J) (i l : I) → variables_fit j i l ≡ true → eqb i.0 0 ≡ true → j.0 ≡ 0
-unfolding if◌then◌else◌
+unfolding when◌then◌else◌
 no_i j i l p t = let q : eqb j.0 0 ≡ true = rw t at p in eqb-true j.0 0 q
 
 with_i : (j : J) (i l : I) → variables_fit j i l ≡ true → eqb i.0 0 ≡ false → (0 < j.0) × (l.0 ≡ 0)
-unfolding if◌then◌else◌
+unfolding when◌then◌else◌
 with_i j i l p f =
     let q : (not (eqb j.0 0) && eqb l.0 0) ≡ true = rw f at p in
     (above_0 j.0 (not-true (eqb j.0 0) (and_left (not (eqb j.0 0)) (eqb l.0 0) q)), eqb-true l.0 0 (and_right (not (eqb j.0 0)) (eqb l.0 0) q))
@@ -176,7 +176,7 @@ by_variables P idle accept ack j i l ok =
     subst (λ (n : ℕ). P j i (record { 0 = n })) (sym w.1) (accept j i w.0 (above_0 i.0 f)))
 
 set_own : (u : Numbers) (i : I) → 0 < i.0 → own_or_none u i ≡ true → its_own u i ≡ true
-unfolding if◌then◌else◌
+unfolding when◌then◌else◌
 set_own u i h o = rw (ne_eqb i.0 0 (omega (arith, h))) at o
 
 -- by the mode that the fields stand for
@@ -200,15 +200,15 @@ abbrev Same : Controller → Type 0
 Same c = controller_fields (controller_end c) ≡ c
 
 idle_same : (u : Numbers) (up : Bool) → Sound u → Same (controller_with u Idle up)
-unfolding controller_mode if◌then◌else◌
+unfolding controller_mode when◌then◌else◌
 idle_same u up s = refl
 
 accept_same : (u : Numbers) (j : J) (i : I) (up : Bool) → Sound u → 0 < j.0 → 0 < i.0 → its_own u i ≡ true → Same (controller_with u (Accept j i) up)
-unfolding controller_mode if◌then◌else◌
+unfolding controller_mode when◌then◌else◌
 accept_same u j i up s h k o = rw (ne_eqb i.0 0 (omega arith))
 
 ack_same : (u : Numbers) (l : I) (up : Bool) → Sound u → 0 < l.0 → its_own u l ≡ true → Same (controller_with u (Ack l) up)
-unfolding controller_mode if◌then◌else◌
+unfolding controller_mode when◌then◌else◌
 ack_same u l up s h o = rw (ne_eqb l.0 0 (omega arith))
 
 pub fields_back : (c : Controller) → controller_ok c ≡ true → Same c
@@ -216,22 +216,22 @@ fields_back c ok = by_mode Same idle_same accept_same ack_same c ok
 
 -- what a controller that was read is
 pub was_read : (c : Controller) {e : End} → controller_read c ≡ Is e → (controller_ok c ≡ true) × (e ≡ controller_end c)
-unfolding controller_read if◌then◌else◌
+unfolding controller_read when◌then◌else◌
 was_read c {e} h =
     by_test (controller_ok c)
     (λ t. let q : Is (controller_end c) ≡ Is e = rw t at h in (t, cc))
     (λ f. let q : IllFormed ≡ Is e = rw f at h in let z : ◌≡◌ {A = ℕ} 0 1 = cc in absurd (omega (arith, z)))
 
 pub not_read : (c : Controller) → controller_read c ≡ IllFormed → controller_ok c ≡ false
-unfolding controller_read if◌then◌else◌
+unfolding controller_read when◌then◌else◌
 not_read c h =
     by_test (controller_ok c) (λ t. let q : Is (controller_end c) ≡ IllFormed = rw t at h in let z : ◌≡◌ {A = ℕ} 1 0 = cc in absurd (omega (arith, z))) (λ f. f)
 
 pub numbered : {read : ControllerRead} (c : Controller) → read ≡ controller_read c → (read ≡ controller_read c) × (controller_read_refusal read ≡ end_refusal (controller_ok c))
-unfolding controller_read if◌then◌else◌
+unfolding controller_read when◌then◌else◌
 numbered c f = (f, ap controller_read_refusal f ∙ by_test (controller_ok c) (λ t. rw t) (λ f. rw f))
 
 -- an idle controller whose numbers are sound is well formed
 pub idle_ok : (u : Numbers) (up : Bool) → Sound u → controller_ok (controller_with u Idle up) ≡ true
-unfolding controller_ok if◌then◌else◌
+unfolding controller_ok when◌then◌else◌
 idle_ok u up s = rw s

@@ -4,7 +4,7 @@ use mathlib.Core.Path.{◌≡◌}
 use mathlib.Core.Bool.{Bool, true, false}
 use mathlib.Core.Option.{Option}
 use lib.Dec.{eqb}
-use Rattle.ground.specs.Choice.{if◌then◌else◌}
+use Rattle.ground.specs.Choice.{when◌then◌else◌}
 use Rattle.wire.specs.declared.I.{I}
 use Rattle.wire.specs.declared.J.{J}
 use Rattle.rules.specs.Ends as rules
@@ -33,20 +33,20 @@ module _ (m : Mode) (i : I) where
 
   module _ {j : J} {own : I} {z : Bool} (f : m ≡ Accept j own) (e : z ≡ eqb i.0 own.0) where
     pub data_own : z ≡ true → (next : Option ℕ) → record { numbers = Stay; mode = Ack i; report = report.Delivered; sent = for-console.Packet (Ok i) } ≡ after_data next
-    unfolding rules.controller_takes if◌then◌else◌
+    unfolding rules.controller_takes when◌then◌else◌
     data_own y next = rw (f, ← e, y)
 
     pub data_other : {x : Turn} → z ≡ false → x ≡ sending_lost (Accept j own) i → (next : Option ℕ) → x ≡ after_data next
-    unfolding rules.controller_takes if◌then◌else◌
+    unfolding rules.controller_takes when◌then◌else◌
     data_other n h next = rw (f, ← e, n) h
 
   module _ {last : I} {z : Bool} (f : m ≡ Ack last) (e : z ≡ eqb i.0 last.0) where
     pub data_again : {x : Turn} → z ≡ true → x ≡ dropping (Ack last) → (next : Option ℕ) → x ≡ after_data next
-    unfolding rules.controller_takes if◌then◌else◌
+    unfolding rules.controller_takes when◌then◌else◌
     data_again y h next = rw (f, ← e, y) h
 
     pub data_not_last : {x : Turn} → z ≡ false → x ≡ sending_lost (Ack last) i → (next : Option ℕ) → x ≡ after_data next
-    unfolding rules.controller_takes if◌then◌else◌
+    unfolding rules.controller_takes when◌then◌else◌
     data_not_last n h next = rw (f, ← e, n) h
 
 pub ruleset datas = (data_idle, data_own, data_other, data_again, data_not_last)
@@ -61,20 +61,20 @@ module _ (m : Mode) (i : I) where
 
   module _ {j : J} {own : I} {z : Bool} (f : m ≡ Accept j own) (e : z ≡ eqb i.0 own.0) where
     pub done_own : {x : Turn} → z ≡ true → x ≡ dropping Idle → (next : Option ℕ) → x ≡ after_done next
-    unfolding rules.controller_takes if◌then◌else◌
+    unfolding rules.controller_takes when◌then◌else◌
     done_own y h next = rw (f, ← e, y) h
 
     pub done_other : {x : Turn} → z ≡ false → x ≡ dropping (Accept j own) → (next : Option ℕ) → x ≡ after_done next
-    unfolding rules.controller_takes if◌then◌else◌
+    unfolding rules.controller_takes when◌then◌else◌
     done_other n h next = rw (f, ← e, n) h
 
   module _ {last : I} {z : Bool} (f : m ≡ Ack last) (e : z ≡ eqb i.0 last.0) where
     pub done_last : {x : Turn} → z ≡ true → x ≡ dropping Idle → (next : Option ℕ) → x ≡ after_done next
-    unfolding rules.controller_takes if◌then◌else◌
+    unfolding rules.controller_takes when◌then◌else◌
     done_last y h next = rw (f, ← e, y) h
 
     pub done_not_last : {x : Turn} → z ≡ false → x ≡ dropping (Ack last) → (next : Option ℕ) → x ≡ after_done next
-    unfolding rules.controller_takes if◌then◌else◌
+    unfolding rules.controller_takes when◌then◌else◌
     done_not_last n h next = rw (f, ← e, n) h
 
 pub ruleset dones = (done_idle, done_own, done_other, done_last, done_not_last)

@@ -1,6 +1,6 @@
 -- What the controller's values mean in the rules, whose messages have one value here: the message stands beside. Assumes nothing.
 use Rattle.std.specs.Prelude.{Bool, true, [], ◌∷◌, eqb}
-use Rattle.ground.specs.Choice.{if◌then◌else◌}
+use Rattle.ground.specs.Choice.{when◌then◌else◌}
 use Rattle.ground.specs.First.{first}
 use Rattle.wire.specs.declared.I.{I}
 use Rattle.rules.specs.Ends as rules
@@ -65,7 +65,7 @@ decided d =
 unfoldable pub sends : Mode → Bool → ForConsole → Decided
 sends now up sent =
     let n = first (rules.down_4 up ∷ rules.mode_6 (for_console sent) ∷ []) in
-    if eqb n 0 then record { report = report.Nothing; sent = sent; numbers = Stay; mode = now; up = up }
+    when eqb n 0 then record { report = report.Nothing; sent = sent; numbers = Stay; mode = now; up = up }
     else record { report = report.Refused n; sent = Nothing; numbers = Stay; mode = now; up = up }
 
 -- ## With its own numbers

@@ -1,6 +1,6 @@
 -- The fields of a controller: when they are well formed, and the end that they stand for. Assumes nothing.
 use Rattle.std.specs.Prelude.{ℕ, Bool, true, false, not, ◌&&◌, eqb}
-use Rattle.ground.specs.Choice.{if◌then◌else◌}
+use Rattle.ground.specs.Choice.{when◌then◌else◌}
 use Rattle.wire.specs.declared.I.{I}
 use Rattle.wire.specs.declared.J.{J}
 use Rattle.rules.specs.Supply.{numbering}
@@ -17,19 +17,19 @@ use Rattle.ends_controller.specs.declared.fields.ModeRead.TheVariants as mode-re
 
 -- What the variables say by themselves, wherever the numbers come from: j and i both 0 or neither; i and last are not both set
 abbrev pub variables_fit : J → I → I → Bool
-variables_fit j i last = if eqb i.0 0 then eqb j.0 0 else not (eqb j.0 0) && eqb last.0 0
+variables_fit j i last = when eqb i.0 0 then eqb j.0 0 else not (eqb j.0 0) && eqb last.0 0
 
 -- idle, accept (i set), ack (last set)
 abbrev pub variables_mode : J → I → I → controller.Mode
 variables_mode j i last =
-    if eqb i.0 0 then (if eqb last.0 0 then controller.Mode.Idle else Ack last) else Accept j i
+    when eqb i.0 0 then (when eqb last.0 0 then controller.Mode.Idle else Ack last) else Accept j i
 
 unfoldable pub mode_read : J → I → I → ModeRead
-mode_read j i last = if variables_fit j i last then mode-read.Is (variables_mode j i last) else mode-read.IllFormed
+mode_read j i last = when variables_fit j i last then mode-read.Is (variables_mode j i last) else mode-read.IllFormed
 
 -- i or last is not set, or one of its own numbers
 abbrev pub own_or_none : Numbers → I → Bool
-own_or_none u i = if eqb i.0 0 then true else numbering.used (numbers_means u) i.0
+own_or_none u i = when eqb i.0 0 then true else numbering.used (numbers_means u) i.0
 
 -- its numbers are sound: last used at most reserved, a block of 1 to 1,024. Its variables fit, and each of i and last is one of its own numbers
 unfoldable pub controller_ok : Controller → Bool
@@ -44,7 +44,7 @@ abbrev pub controller_end : Controller → controller-end.End
 controller_end c = record { numbers = c.numbers; mode = controller_mode c; up = c.up }
 
 unfoldable pub controller_read : Controller → ControllerRead
-controller_read c = if controller_ok c then controller-read.Is (controller_end c) else controller-read.IllFormed
+controller_read c = when controller_ok c then controller-read.Is (controller_end c) else controller-read.IllFormed
 
 -- document 01's number of each case
 abbrev pub controller_read_refusal : ControllerRead → ℕ

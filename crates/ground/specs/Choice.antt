@@ -1,7 +1,7 @@
 -- A choice by a test. Assumes nothing.
 use Rattle.std.specs.Prelude.{Bool, true, false}
 
-infix 20 if◌then◌else◌
-unfoldable pub if◌then◌else◌ : {A : Type 0} → Bool → A → A → A
-if true then a else b = a
-if false then a else b = b
+infix 20 when◌then◌else◌
+unfoldable pub when◌then◌else◌ : {A : Type 0} → Bool → A → A → A
+when true then a else b = a
+when false then a else b = b

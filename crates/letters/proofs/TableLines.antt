@@ -7,7 +7,7 @@ use mathlib.Core.List.{List, [], ◌∷◌, map}
 use native.Mathlib.Nat.{le_of_suc-le-suc, not-suc-le-zero}
 use borrow.Author.Tests.{ne_eqb}
 use lib.ListN.{length, get_or}
-use Rattle.ground.specs.Choice.{if◌then◌else◌}
+use Rattle.ground.specs.Choice.{when◌then◌else◌}
 use Rattle.rules.specs.Bench.{at}
 use Rattle.rules.specs.Letters.{Letter, line, letters, among, letter}
 use Rattle.letters.specs.Lines.{line_of, found_of, found_refusal, letter_refusal, found_at}
@@ -47,7 +47,7 @@ keyed {b} e f g = numbered (letter b) (f ∙ g ∙ ap (λ n. found_of (letter n)
 -- a byte that is none of the fourteen
 pub no_letter : (b : ℕ) → (b ≡ 0x50 → ⊥) → (b ≡ 0x51 → ⊥) → (b ≡ 0x44 → ⊥) → (b ≡ 0x53 → ⊥) → (b ≡ 0x43 → ⊥) → (b ≡ 0x56 → ⊥) → (b ≡ 0x4F → ⊥) → (b ≡ 0x4B → ⊥)
     → (b ≡ 0x52 → ⊥) → (b ≡ 0x58 → ⊥) → (b ≡ 0x59 → ⊥) → (b ≡ 0x4C → ⊥) → (b ≡ 0x4D → ⊥) → (b ≡ 0x41 → ⊥) → Numbered found.Nothing (letter b)
-unfolding letter letters line among if◌then◌else◌
+unfolding letter letters line among when◌then◌else◌
 no_letter b p q d s c v o k r x y l m a =
     numbered (letter b) (rw (
       ne_eqb 0x50 b (λ e. p (sym e)),

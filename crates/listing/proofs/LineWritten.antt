@@ -5,7 +5,7 @@ use mathlib.Core.List.{List, [], ◌∷◌, ◌++◌}
 use native.Mathlib.Omega.{arith}
 use borrow.Author.Tests.{eq-eqb, ne_eqb}
 use lib.ListN.{length}
-use Rattle.ground.specs.Choice.{if◌then◌else◌}
+use Rattle.ground.specs.Choice.{when◌then◌else◌}
 use Rattle.ground.proofs.Elements.{elements, rest_elements}
 use Rattle.listing.specs.Line.{decimals, line_bytes, line_written}
 
@@ -30,11 +30,11 @@ line_bytes_are number letter c m {n} f i j k =
 -- a write: to 27 bytes, and to another length
 module _ (out : List ℕ) (number letter : ℕ) (c m : List ℕ) where
   pub line_written_lem : {all x : List ℕ} → length out ≡ 27 → all ≡ line_bytes number letter c m → x ≡ all → x ≡ line_written out number letter c m
-  unfolding line_written if◌then◌else◌
+  unfolding line_written when◌then◌else◌
   line_written_lem l b h = rw (eq-eqb (length out) 27 l) (h ∙ b)
 
   pub line_kept : (length out ≡ 27 → ⊥) → out ≡ line_written out number letter c m
-  unfolding line_written if◌then◌else◌
+  unfolding line_written when◌then◌else◌
   line_kept h = rw (ne_eqb (length out) 27 h)
 
 pub ruleset lines = (line_written_lem, line_kept)

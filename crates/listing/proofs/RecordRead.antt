@@ -7,7 +7,7 @@ use borrow.Author.Tests.{ne_eqb, eq-eqb, leb-true}
 use lib.ListN.{length, get_or}
 use lib.Dec.{leb}
 use Rattle.ground.specs.Bytes.{field}
-use Rattle.ground.specs.Choice.{if◌then◌else◌}
+use Rattle.ground.specs.Choice.{when◌then◌else◌}
 use Rattle.ground.proofs.Tests.{and_left, and_right}
 use Rattle.listing.specs.declared.Fields.{Fields}
 use Rattle.listing.specs.declared.Uses.{Uses}
@@ -49,15 +49,15 @@ module _ (u : Uses) (s : List ℕ) {r : Bool} (e : r ≡ fields_fit u s) (t : r 
   copies_digit = leb-true 0x30 cell_3 (and_left (leb 0x30 cell_3) _ copies_good)
 
   pub read_fits : {p k : ℕ} {m : List ℕ} → length s ≡ 21 → p ≡ place_of (get_or s 1 0) (get_or s 2 0) → k ≡ copies_of (get_or s 3 0) → m ≡ field s 4 16 → record { fits = true; place = p; copies = k; message = m } ≡ list_record u s
-  unfolding list_record is_well_formed fields if◌then◌else◌
+  unfolding list_record is_well_formed fields when◌then◌else◌
   read_fits l f g h = rw (eq-eqb (length s) 21 l, all, f, g, h)
 
 -- ## A record that is not well formed: its length, or its fields
 
 pub read_length : (u : Uses) (s : List ℕ) {x : Fields} → (length s ≡ 21 → ⊥) → x ≡ ill_formed → x ≡ list_record u s
-unfolding list_record is_well_formed if◌then◌else◌
+unfolding list_record is_well_formed when◌then◌else◌
 read_length u s h f = rw (ne_eqb (length s) 21 h) f
 
 pub read_fails : (u : Uses) (s : List ℕ) {r : Bool} {x : Fields} → length s ≡ 21 → r ≡ fields_fit u s → r ≡ false → x ≡ ill_formed → x ≡ list_record u s
-unfolding list_record is_well_formed if◌then◌else◌
+unfolding list_record is_well_formed when◌then◌else◌
 read_fails u s l e t f = rw (eq-eqb (length s) 21 l, ← e, t) f

@@ -5,7 +5,7 @@ use mathlib.Core.Bool.{Bool, true, false}
 use mathlib.Core.List.{List, [], ◌∷◌, ◌++◌, map}
 use lib.ListN.{take, set, replicate}
 use Rattle.ground.specs.Cell.{cells, is_message, spaces}
-use Rattle.ground.specs.Choice.{if◌then◌else◌}
+use Rattle.ground.specs.Choice.{when◌then◌else◌}
 use Rattle.ground.specs.Every.{filled}
 use Rattle.listing.specs.declared.Fields.{Fields}
 use Rattle.listing.specs.declared.Uses.{Uses}
@@ -41,7 +41,7 @@ bare = uses false false false
 
 -- for proofs: `unfolding reads` opens all that a read is made of
 unfoldable pub reads : Unit {0}
-unfolding list_record is_well_formed fields ill_formed fields_fit place_fits copies_fit message_fits is_place is_copies is_message cells filled if◌then◌else◌
+unfolding list_record is_well_formed fields ill_formed fields_fit place_fits copies_fit message_fits is_place is_copies is_message cells filled when◌then◌else◌
 reads = tt
 
 -- ## Records
@@ -138,10 +138,10 @@ rows =
     ∷ []
 
 rows_written : map (λ (v : Line). line_written (replicate 27 7) v.0 v.1 v.2 v.3) rows ≡ map (λ (v : Line). v.4 ++ (v.3 ++ (0x0A ∷ []))) rows
-unfolding line_written line_bytes decimals if◌then◌else◌
+unfolding line_written line_bytes decimals when◌then◌else◌
 rows_written = refl
 
 -- buffers of 26 and 28 bytes stay
 others_kept : map (λ n. line_written (replicate n 7) 1 0x50 (0x2D ∷ 0x2D ∷ []) spaces) (26 ∷ 28 ∷ []) ≡ replicate 26 7 ∷ replicate 28 7 ∷ []
-unfolding line_written if◌then◌else◌
+unfolding line_written when◌then◌else◌
 others_kept = refl

@@ -10,7 +10,7 @@ use contract.Lifetimes.{Lfts}
 use borrow.Fn.Kinds.{Dens, ended_of}
 use denote.Triple.Clauses.{AtExit}
 use Rattle.ground.specs.Cell.{spaces}
-use Rattle.ground.specs.Choice.{if◌then◌else◌}
+use Rattle.ground.specs.Choice.{when◌then◌else◌}
 use Rattle.ground.proofs.Promise.{RulesOut}
 use Rattle.listing.specs.declared.Fields.{Fields}
 use Rattle.listing.specs.declared.Uses.{Uses}
@@ -80,7 +80,7 @@ space_for_0 κs a x s e w p =
 
 module _ (κs : Lfts 1) (a : Dens κs write-line-kinds.ps) (s : AtExit (ended_of 1 write-line-kinds.ps write-line-kinds.r) κs) (zeros : a.0.now ≡ replicate 27 0) (meets : write-line.Post κs a tt s) where
   written : s.0.now ≡ line_bytes a.1.0 a.1.1.0 a.1.1.1.0 a.1.1.1.1.0
-  unfolding line_written if◌then◌else◌
+  unfolding line_written when◌then◌else◌
   written = meets ∙ ap (λ (l : List ℕ). line_written l a.1.0 a.1.1.0 a.1.1.1.0 a.1.1.1.1.0) zeros
 
   pub changes_nothing : s.0.now ≡ a.0.now → ⊥
@@ -99,7 +99,7 @@ module _ (κs : Lfts 1) (a : Dens κs write-line-kinds.ps) (s : AtExit (ended_of
 
 -- lent 28 bytes
 pub writes_to_28_bytes : RulesOut write-line-kinds.ps write-line-kinds.r write-line.Post (λ κs a. length a.0.now ≡ 28) (λ κs a x s. s.0.now ≡ a.0.now → ⊥)
-unfolding line_written if◌then◌else◌
+unfolding line_written when◌then◌else◌
 writes_to_28_bytes κs a x s e w p = w (rw (ne_eqb (length a.0.now) 27 (λ h. omega (arith, e, h))) at p)
 
 -- ## Where a record ends
@@ -108,14 +108,14 @@ writes_to_28_bytes κs a x s e w p = w (rw (ne_eqb (length a.0.now) 27 (λ h. om
 module _ (κs : Lfts 0) (a : Dens κs record-end-kinds.ps) (x : ℕ) (s : AtExit (ended_of 0 record-end-kinds.ps record-end-kinds.r) κs) (long : a.1.0 ≡ 40) (meets : record-end.Post κs a x s) where
   -- the last record is short
   pub reads_past_the_end : a.0 ≡ 21 → x ≡ 42 → ⊥
-  unfolding record_end if◌then◌else◌
+  unfolding record_end when◌then◌else◌
   reads_past_the_end b e =
       let q : x ≡ 40 = meets ∙ λ i. record_end (b i) (long i) in
       omega (arith, q, e)
 
   -- the line feed belongs to the record
   pub leaves_the_line_feed : a.0 ≡ 0 → x ≡ 20 → ⊥
-  unfolding record_end if◌then◌else◌
+  unfolding record_end when◌then◌else◌
   leaves_the_line_feed b e =
       let q : x ≡ 21 = meets ∙ λ i. record_end (b i) (long i) in
       omega (arith, q, e)

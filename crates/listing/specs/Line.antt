@@ -1,6 +1,6 @@
 -- A line of a list program's output, 26 cells and 0x0A. Assumes nothing.
 use Rattle.std.specs.Prelude.{ℕ, zero, suc, ◌+◌, ◌/◌, ◌%◌, ◌^◌, List, [], ◌∷◌, ◌++◌, length, eqb}
-use Rattle.ground.specs.Choice.{if◌then◌else◌}
+use Rattle.ground.specs.Choice.{when◌then◌else◌}
 
 -- the last n decimal digits of a number
 unfoldable pub decimals : ℕ → ℕ → List ℕ
@@ -15,4 +15,4 @@ line_bytes number letter cells message =
 -- a buffer of 27 bytes afterwards; one of another length stays as it was
 unfoldable pub line_written : List ℕ → ℕ → ℕ → List ℕ → List ℕ → List ℕ
 line_written out number letter cells message =
-    if eqb (length out) 27 then line_bytes number letter cells message else out
+    when eqb (length out) 27 then line_bytes number letter cells message else out

@@ -3,7 +3,7 @@
 use Rattle.std.specs.Prelude.{ℕ, ◌+◌, ◌*◌, ◌-◌, Bool, true, false, ◌&&◌, ◌||◌, List, length, get_or, eqb, leb, ltb}
 use Rattle.ground.specs.Bytes.{field}
 use Rattle.ground.specs.Cell.{is_message, spaces}
-use Rattle.ground.specs.Choice.{if◌then◌else◌}
+use Rattle.ground.specs.Choice.{when◌then◌else◌}
 use Rattle.ground.specs.Every.{filled}
 use Rattle.listing.specs.declared.Fields.{Fields}
 use Rattle.listing.specs.declared.Uses.{Uses}
@@ -59,8 +59,8 @@ ill_formed = record { fits = false; place = 0; copies = 0; message = spaces }
 
 -- with what the letter uses
 unfoldable pub list_record : Uses → List ℕ → Fields
-list_record u s = if is_well_formed u s then fields s else ill_formed
+list_record u s = when is_well_formed u s then fields s else ill_formed
 
 -- where a record that begins at `start` ends in `len` bytes: 21 bytes on, but the last may be short
 unfoldable pub record_end : ℕ → ℕ → ℕ
-record_end start len = if ltb len (start + 21) then len else start + 21
+record_end start len = when ltb len (start + 21) then len else start + 21

@@ -2,7 +2,7 @@
 use Prim.Native.Nat.{ℕ}
 use mathlib.Core.Path.{◌≡◌, refl, sym, ap, ◌∙◌}
 use mathlib.Core.Bool.{true, false, true≢false, false≢true}
-use Rattle.ground.specs.Choice.{if◌then◌else◌}
+use Rattle.ground.specs.Choice.{when◌then◌else◌}
 use Rattle.ground.proofs.Promise.{RulesOut, unequal}
 use Rattle.rules.specs.Supply.{numbering, largest, numbers_rules}
 use Rattle.rules.specs.Ends.{absent}
@@ -52,29 +52,29 @@ pub fresh_is_one_ahead : RulesOut fresh-kinds.ps fresh-kinds.r fresh.Post (λ κ
 fresh_is_one_ahead κs a x s e w p = unequal (sym w ∙ ap last (p ∙ ap numbers_fresh e)) refl
 
 pub gives_1_again : RulesOut next-kinds.ps next-kinds.r next.Post (λ κs a. a.0 ≡ up_to 3) (λ κs a x s. x ≡ 1)
-unfolding numbers_rules if◌then◌else◌
+unfolding numbers_rules when◌then◌else◌
 gives_1_again κs a x s e w p = unequal (sym w ∙ p ∙ ap (λ (n : Numbers). number_or0 (numbering.next (numbers_means n))) e) refl
 
 pub starts_over_after_the_largest : RulesOut next-kinds.ps next-kinds.r next.Post (λ κs a. a.0 ≡ up_to largest) (λ κs a x s. x ≡ 1)
-unfolding numbers_rules if◌then◌else◌
+unfolding numbers_rules when◌then◌else◌
 starts_over_after_the_largest κs a x s e w p = unequal (sym w ∙ p ∙ ap (λ (n : Numbers). number_or0 (numbering.next (numbers_means n))) e) refl
 
 -- coming back leaves last used: the numbers that were taken after the record was kept would be given again
 pub back_leaves_last_used : RulesOut back-kinds.ps back-kinds.r back.Post (λ κs a. a.0 ≡ in_block 3 64 64) (λ κs a x s. x.used ≡ 3)
-unfolding numbers_rules if◌then◌else◌
+unfolding numbers_rules when◌then◌else◌
 back_leaves_last_used κs a x s e w p = unequal (sym w ∙ ap last (p ∙ ap (λ (n : Numbers). numbers_back (numbering.back (numbers_means n))) e)) refl
 
 pub back_starts_at_0 : RulesOut back-kinds.ps back-kinds.r back.Post (λ κs a. a.0 ≡ up_to 3) (λ κs a x s. x.used ≡ 0)
-unfolding numbers_rules if◌then◌else◌
+unfolding numbers_rules when◌then◌else◌
 back_starts_at_0 κs a x s e w p = unequal (sym w ∙ ap last (p ∙ ap (λ (n : Numbers). numbers_back (numbering.back (numbers_means n))) e)) refl
 
 -- the number that was taken last is given again
 pub back_gives_one_back : RulesOut back-kinds.ps back-kinds.r back.Post (λ κs a. a.0 ≡ up_to 3) (λ κs a x s. x.used ≡ 2)
-unfolding numbers_rules if◌then◌else◌
+unfolding numbers_rules when◌then◌else◌
 back_gives_one_back κs a x s e w p = unequal (sym w ∙ ap last (p ∙ ap (λ (n : Numbers). numbers_back (numbering.back (numbers_means n))) e)) refl
 
 pub takes_one_and_stays : RulesOut after-kinds.ps after-kinds.r after.Post (λ κs a. (a.0 ≡ up_to 3) × (a.1.0 ≡ Take)) (λ κs a x s. x.used ≡ 3)
-unfolding numbers_taken absent numbers_rules if◌then◌else◌
+unfolding numbers_taken absent numbers_rules when◌then◌else◌
 takes_one_and_stays κs a x s e w p = unequal (sym w ∙ ap last (p ∙ (λ i. numbers_moved (e.1 i) (e.0 i)))) refl
 
 pub stays_and_takes_one : RulesOut after-kinds.ps after-kinds.r after.Post (λ κs a. (a.0 ≡ up_to 3) × (a.1.0 ≡ Stay)) (λ κs a x s. x.used ≡ 4)
@@ -88,7 +88,7 @@ last_used_is_not_used κs a x s e w p = false≢true (sym w ∙ p ∙ (λ i. num
 
 -- spent is last used at the largest, not reserved
 pub spent_where_all_is_reserved : RulesOut next-kinds.ps next-kinds.r next.Post (λ κs a. a.0 ≡ in_block 4294967286 largest 64) (λ κs a x s. x ≡ 0)
-unfolding numbers_rules if◌then◌else◌
+unfolding numbers_rules when◌then◌else◌
 spent_where_all_is_reserved κs a x s e w p = unequal (sym w ∙ p ∙ ap (λ (n : Numbers). number_or0 (numbering.next (numbers_means n))) e) refl
 
 -- a number that is reserved and was not taken counts as used
@@ -118,23 +118,23 @@ last_used_above_reserved_is_sound κs a x s e w p = true≢false (sym w ∙ p �
 
 -- it grows at every number: the flash wears as before
 pub grows_within_the_block : RulesOut after-kinds.ps after-kinds.r after.Post (λ κs a. (a.0 ≡ in_block 3 64 64) × (a.1.0 ≡ Take)) (λ κs a x s. x.reserved ≡ 128)
-unfolding numbers_taken absent numbers_rules if◌then◌else◌
+unfolding numbers_taken absent numbers_rules when◌then◌else◌
 grows_within_the_block κs a x s e w p = unequal (sym w ∙ ap reserved (p ∙ (λ i. numbers_moved (e.1 i) (e.0 i)))) refl
 
 -- it stays where all of it is used: the number is not reserved
 pub stays_at_the_end_of_the_block : RulesOut after-kinds.ps after-kinds.r after.Post (λ κs a. (a.0 ≡ in_block 64 64 64) × (a.1.0 ≡ Take)) (λ κs a x s. x.reserved ≡ 64)
-unfolding numbers_taken absent numbers_rules if◌then◌else◌
+unfolding numbers_taken absent numbers_rules when◌then◌else◌
 stays_at_the_end_of_the_block κs a x s e w p = unequal (sym w ∙ ap reserved (p ∙ (λ i. numbers_moved (e.1 i) (e.0 i)))) refl
 
 -- it runs over the largest number, and starts again from 0
 pub grows_past_the_largest : RulesOut after-kinds.ps after-kinds.r after.Post (λ κs a. (a.0 ≡ in_block 4294967292 4294967292 1024) × (a.1.0 ≡ Take)) (λ κs a x s. x.reserved ≡ 1020)
-unfolding numbers_taken absent numbers_rules if◌then◌else◌
+unfolding numbers_taken absent numbers_rules when◌then◌else◌
 grows_past_the_largest κs a x s e w p = unequal (sym w ∙ ap reserved (p ∙ (λ i. numbers_moved (e.1 i) (e.0 i)))) refl
 
 pub taking_starts_over : RulesOut after-kinds.ps after-kinds.r after.Post (λ κs a. (a.0 ≡ up_to largest) × (a.1.0 ≡ Take)) (λ κs a x s. x.used ≡ 0)
-unfolding numbers_taken absent numbers_rules if◌then◌else◌
+unfolding numbers_taken absent numbers_rules when◌then◌else◌
 taking_starts_over κs a x s e w p = unequal (sym w ∙ ap last (p ∙ (λ i. numbers_moved (e.1 i) (e.0 i)))) refl
 
 pub coming_back_starts_at_0 : RulesOut after-kinds.ps after-kinds.r after.Post (λ κs a. (a.0 ≡ up_to 3) × (a.1.0 ≡ Back)) (λ κs a x s. x.used ≡ 0)
-unfolding numbers_taken numbers_rules if◌then◌else◌
+unfolding numbers_taken numbers_rules when◌then◌else◌
 coming_back_starts_at_0 κs a x s e w p = unequal (sym w ∙ ap last (p ∙ (λ i. numbers_moved (e.1 i) (e.0 i)))) refl

@@ -1,7 +1,7 @@
 -- An end's numbers in the rules, and back. Assumes nothing.
 use Rattle.std.specs.Prelude.{ℕ, Bool, true, false, eqb}
 use Rattle.std.proofs.Math.Option.{Option, none, some}
-use Rattle.ground.specs.Choice.{if◌then◌else◌}
+use Rattle.ground.specs.Choice.{when◌then◌else◌}
 use Rattle.rules.specs.Supply as rules
 use Rattle.rules.specs.Supply.{numbering}
 use Rattle.rules.specs.Ends.{absent}
@@ -31,13 +31,13 @@ number_or0 none = 0
 number_or0 (some n) = n
 
 unfoldable pub given : ℕ → Option ℕ
-given n = if eqb n 0 then none else some n
+given n = when eqb n 0 then none else some n
 
 -- ## What a step does to them
 
 -- of numbers that are spent nothing is taken
 unfoldable pub numbers_taken : Numbers → Numbers
-numbers_taken n = if absent (numbering.next (numbers_means n)) then n else numbers_back (numbering.take (numbers_means n))
+numbers_taken n = when absent (numbering.next (numbers_means n)) then n else numbers_back (numbering.take (numbers_means n))
 
 abbrev pub numbers_moved : Move → Numbers → Numbers
 numbers_moved Stay n = n

@@ -10,7 +10,7 @@ use mathlib.Core.List.{List}
 use lib.Dec.{eqb}
 use borrow.Author.Tests.{eqb-true, eqb-false}
 use native.Mathlib.Omega.{arith}
-use Rattle.ground.specs.Choice.{if◌then◌else◌}
+use Rattle.ground.specs.Choice.{when◌then◌else◌}
 use Rattle.ground.specs.First.{refusal}
 use Rattle.ground.specs.Cell.{is_message, cells}
 use Rattle.rules.specs.Supply.{Supply, counted}
@@ -103,14 +103,14 @@ module _ {S M : Type 0} (U : Supply S) where
 
 -- x is what an accepted action comes to, y what one comes to that is refused with k
 module _ {M A : Type 0} (says : A → Report M) (k : ℕ) (x y : A) (accepts : NotRefused (says x)) (refuses : says y ≡ refused k) where
-  pub refused_exactly : (n : ℕ) → (says (if eqb k 0 then x else y) ≡ refused n) ↔ ((k ≡ n) × (n ≢ 0))
+  pub refused_exactly : (n : ℕ) → (says (when eqb k 0 then x else y) ≡ refused n) ↔ ((k ≡ n) × (n ≢ 0))
   refused_exactly n =
       if_holds (λ z. (says z ≡ refused n) ↔ ((k ≡ n) × (n ≢ 0))) (eqb k 0) x y
       (λ e. (λ q. absurd (subst NotRefused q accepts), λ h. absurd (h.1 (sym h.0 ∙ eqb-true k 0 e))))
       (λ e. (λ q. let same : k ≡ n = cc in (same, λ z. eqb-false k 0 e (same ∙ z)), λ h. refuses ∙ ap refused h.0))
 
   -- and then it is y
-  pub refused_is : (n : ℕ) → says (if eqb k 0 then x else y) ≡ refused n → (if eqb k 0 then x else y) ≡ y
+  pub refused_is : (n : ℕ) → says (when eqb k 0 then x else y) ≡ refused n → (when eqb k 0 then x else y) ≡ y
   refused_is n =
       if_holds (λ z. says z ≡ refused n → z ≡ y) (eqb k 0) x y (λ e q. absurd (subst NotRefused q accepts)) (λ e q. refl)
 

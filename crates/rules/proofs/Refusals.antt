@@ -6,7 +6,7 @@ use mathlib.Core.Bool.{Bool, true, false, ◌||◌, true≢false}
 use mathlib.Core.List.{List, [], ◌∷◌, map}
 use lib.Dec.{T, eqb}
 use borrow.Author.Tests.{eqb-true, eqb-false}
-use Rattle.ground.specs.Choice.{if◌then◌else◌}
+use Rattle.ground.specs.Choice.{when◌then◌else◌}
 use Rattle.ground.specs.First.{Rule, first, refusal_order, applies, refusal}
 use Rattle.rules.specs.Lists.{listed}
 
@@ -20,22 +20,22 @@ module _ (f : ℕ → Bool) where
   looked_at ns = map (λ n. (n, f n)) ns
 
   none_applies : (ns : List ℕ) → listed 0 ns ≡ false → first (looked_at ns) ≡ 0 → (k : ℕ) → T (listed k ns) → f k ≡ false
-  unfolding first if◌then◌else◌
+  unfolding first when◌then◌else◌
   none_applies [] z e k h = absurd h
   none_applies (n ∷ ns) z e k h = test (f n) refl (eqb k n) refl e h (λ z e h. none_applies ns z e k h)
     where
-      test : (c : Bool) → f n ≡ c → (d : Bool) → eqb k n ≡ d → (if c then n else first (looked_at ns)) ≡ 0 → T (d || listed k ns)
+      test : (c : Bool) → f n ≡ c → (d : Bool) → eqb k n ≡ d → (when c then n else first (looked_at ns)) ≡ 0 → T (d || listed k ns)
           → (listed 0 ns ≡ false → first (looked_at ns) ≡ 0 → T (listed k ns) → f k ≡ false) → f k ≡ false
       test true q d p e h more = absurd (eqb-false 0 n (neither (eqb 0 n) (listed 0 ns) z).0 (sym e))
       test false q true p e h more = ap f (eqb-true k n p) ∙ q
       test false q false p e h more = more (neither (eqb 0 n) (listed 0 ns) z).1 e h
 
   one_applies : (ns : List ℕ) (k : ℕ) → first (looked_at ns) ≡ k → k ≢ 0 → f k ≡ true
-  unfolding first if◌then◌else◌
+  unfolding first when◌then◌else◌
   one_applies [] k e z = absurd (z (sym e))
   one_applies (n ∷ ns) k e z = test (f n) refl e (λ e. one_applies ns k e z)
     where
-      test : (c : Bool) → f n ≡ c → (if c then n else first (looked_at ns)) ≡ k → (first (looked_at ns) ≡ k → f k ≡ true) → f k ≡ true
+      test : (c : Bool) → f n ≡ c → (when c then n else first (looked_at ns)) ≡ k → (first (looked_at ns) ≡ k → f k ≡ true) → f k ≡ true
       test true q e more = ap f (sym e) ∙ q
       test false q e more = more e
 

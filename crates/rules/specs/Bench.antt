@@ -1,7 +1,7 @@
 -- The bench of document 01: two ends, two channels, the fourteen actions and their refusals. Assumes nothing.
 use Rattle.std.specs.Prelude.{ℕ, ◌+◌, ◌≡◌, Bool, true, false, ◌&&◌, List, [], ◌∷◌, ◌++◌, length, replicate, T, eqb, ltb}
 use Rattle.std.proofs.Math.Option.{Option, none, some}
-use Rattle.ground.specs.Choice.{if◌then◌else◌}
+use Rattle.ground.specs.Choice.{when◌then◌else◌}
 use Rattle.ground.specs.First.{Rule, refusal}
 unfoldable pub use Rattle.ground.specs.Lists.{at, without}
 use Rattle.rules.specs.Supply.{Supply, next_counted}
@@ -168,7 +168,7 @@ module _ {S M : Type 0} (U : Supply S) (good : M → Bool) where
 
   unfoldable pub step : Bench S M → Action M → Outcome S M
   step b a =
-      let n = refusal (rules_of b a) in if eqb n 0 then effect U b a else record { report = refused n; after = b }
+      let n = refusal (rules_of b a) in when eqb n 0 then effect U b a else record { report = refused n; after = b }
 
   -- the bench at the end, and what each action reports
   unfoldable pub run : Bench S M → List (Action M) → Bench S M

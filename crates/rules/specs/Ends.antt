@@ -2,7 +2,7 @@
 -- places and copies. Over messages of any type M and any supply of numbers. Assumes nothing.
 use Rattle.std.specs.Prelude.{ℕ, Bool, true, false, not, List, [], ◌∷◌, eqb}
 use Rattle.std.proofs.Math.Option.{Option, none, some}
-use Rattle.ground.specs.Choice.{if◌then◌else◌}
+use Rattle.ground.specs.Choice.{when◌then◌else◌}
 use Rattle.ground.specs.First.{Rule, first, applies, refusal}
 use Rattle.rules.specs.Supply.{Supply}
 
@@ -108,19 +108,19 @@ module _ {M : Type 0} where
   -- offer(J, I): in needI with J = j: j cleared, last := I. Otherwise, if I differs from last, reply done(I); if equal, dropped
   console_takes idle (offer J I) = stays idle (some (done I))
   console_takes (in_need_i j m) (offer J I) =
-      if eqb J j then stays (in_send I m) none else stays (in_need_i j m) (some (done I))
+      when eqb J j then stays (in_send I m) none else stays (in_need_i j m) (some (done I))
   console_takes (in_send last m) (offer J I) =
-      if eqb I last then stays (in_send last m) none else stays (in_send last m) (some (done I))
+      when eqb I last then stays (in_send last m) none else stays (in_send last m) (some (done I))
   -- OK(I): I = last: answer OK, message and last cleared, reply done(I). Any other: reply done(I)
   console_takes idle (ok I) = stays idle (some (done I))
   console_takes (in_need_i j m) (ok I) = stays (in_need_i j m) (some (done I))
   console_takes (in_send last m) (ok I) =
-      if eqb I last then turn false idle answered_ok (some (done I)) else stays (in_send last m) (some (done I))
+      when eqb I last then turn false idle answered_ok (some (done I)) else stays (in_send last m) (some (done I))
   -- lost(I): I = last: answer lost, message and last cleared, no reply. Any other: dropped
   console_takes idle (lost I) = stays idle none
   console_takes (in_need_i j m) (lost I) = stays (in_need_i j m) none
   console_takes (in_send last m) (lost I) =
-      if eqb I last then turn false idle answered_lost none else stays (in_send last m) none
+      when eqb I last then turn false idle answered_lost none else stays (in_send last m) none
 
   -- R, by kind
   unfoldable pub controller_takes : Option ℕ → ControllerMode → ToController M → ControllerTurn M
@@ -132,13 +132,13 @@ module _ {M : Type 0} where
   -- data(I, m): I = i: deliver m, j and i cleared, last := I, reply OK(I). I = last: dropped. Any other: reply lost(I)
   controller_takes next idle (order I m) = stays idle (some (lost I))
   controller_takes next (in_accept j i) (order I m) =
-      if eqb I i then turn false (in_ack I) (delivered m) (some (ok I)) else stays (in_accept j i) (some (lost I))
+      when eqb I i then turn false (in_ack I) (delivered m) (some (ok I)) else stays (in_accept j i) (some (lost I))
   controller_takes next (in_ack last) (order I m) =
-      if eqb I last then stays (in_ack last) none else stays (in_ack last) (some (lost I))
+      when eqb I last then stays (in_ack last) none else stays (in_ack last) (some (lost I))
   -- done(I): I = i: j and i cleared. I = last: last cleared. Any other: dropped
   controller_takes next idle (done I) = stays idle none
-  controller_takes next (in_accept j i) (done I) = if eqb I i then stays idle none else stays (in_accept j i) none
-  controller_takes next (in_ack last) (done I) = if eqb I last then stays idle none else stays (in_ack last) none
+  controller_takes next (in_accept j i) (done I) = when eqb I i then stays idle none else stays (in_accept j i) none
+  controller_takes next (in_ack last) (done I) = when eqb I last then stays idle none else stays (in_ack last) none
 
 -- O, in accept: offer(j, i)
 unfoldable pub offer_sent : ControllerMode → Option ToConsole
@@ -285,16 +285,16 @@ module _ {S M : Type 0} (U : Supply S) where
   unfoldable pub console_step : (M → Bool) → Console S M → ConsoleAct M → ConsoleActed S M
   console_step good e act =
       let n = refusal (console_rules U good e act) in
-      if eqb n 0 then console_acts e act else record { report = refused n; sent = none; after = e }
+      when eqb n 0 then console_acts e act else record { report = refused n; sent = none; after = e }
 
   unfoldable pub controller_step : Controller S → ControllerAct M → ControllerActed S M
   controller_step e act =
       let n = refusal (controller_rules U e act) in
-      if eqb n 0 then controller_acts e act else record { report = refused n; sent = none; after = e }
+      when eqb n 0 then controller_acts e act else record { report = refused n; sent = none; after = e }
 
 -- for proofs: `unfolding ends` opens every definition of the ends' rules
 unfoldable pub ends : Unit {0}
-unfolding if◌then◌else◌ first applies refusal puts need_i_sent data_sent console_takes controller_takes offer_sent ok_sent
+unfolding when◌then◌else◌ first applies refusal puts need_i_sent data_sent console_takes controller_takes offer_sent ok_sent
     console_turn controller_turn up_after numbers_after end_after absent holding unknown console_rules controller_rules
     console_acts controller_acts console_step controller_step
 ends = tt

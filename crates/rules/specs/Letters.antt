@@ -1,7 +1,7 @@
 -- The fourteen letters, document 01's thirteen and request 2's A: whom each asks, what it takes from a channel, and which fields of an action it uses. Assumes nothing.
 use Rattle.std.specs.Prelude.{ℕ, Bool, true, false, List, [], ◌∷◌, eqb}
 use Rattle.std.proofs.Math.Option.{Option, none, some}
-use Rattle.ground.specs.Choice.{if◌then◌else◌}
+use Rattle.ground.specs.Choice.{when◌then◌else◌}
 
 pub data Letter : Type 0 where
   p_put q_need d_data s_take c_down v_back o_offer k_ok r_take x_down y_back l_lose m_lose a_ack : Letter
@@ -61,7 +61,7 @@ letters =
 
 unfoldable pub among : List Letter → ℕ → Option Letter
 among [] b = none
-among (l ∷ ls) b = if eqb (line l).byte b then some l else among ls b
+among (l ∷ ls) b = when eqb (line l).byte b then some l else among ls b
 
 -- the letter of a byte; none: no action
 unfoldable pub letter : ℕ → Option Letter

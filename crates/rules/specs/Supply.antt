@@ -3,7 +3,7 @@
 use Rattle.std.specs.Prelude.{ℕ, suc, ◌+◌, ◌≡◌, Bool, true, false, ◌&&◌, eqb, leb}
 use Rattle.std.proofs.Math.Option.{Option, none, some}
 use Rattle.ground.specs.Block.{is_block, fresh_block}
-use Rattle.ground.specs.Choice.{if◌then◌else◌}
+use Rattle.ground.specs.Choice.{when◌then◌else◌}
 
 pub record Supply (S : Type 0) : Type 0 where
   pub next : S → Option ℕ  -- the number that is taken next; none: the numbers are spent
@@ -31,7 +31,7 @@ abbrev pub largest : ℕ
 largest = 4_294_967_295
 
 unfoldable pub next_counted : ℕ → Option ℕ
-next_counted last = if eqb last largest then none else some (suc last)
+next_counted last = when eqb last largest then none else some (suc last)
 
 -- both numbers run from 1 to 4,294,967,295. 0 means none
 abbrev pub counted : Supply ℕ
@@ -53,14 +53,14 @@ pub record Blocks : Type 0 where
   pub block : ℕ
 
 unfoldable pub lesser : ℕ → ℕ → ℕ
-lesser m n = if leb m n then m else n
+lesser m n = when leb m n then m else n
 
 unfoldable pub greater : ℕ → ℕ → ℕ
-greater m n = if leb m n then n else m
+greater m n = when leb m n then n else m
 
 -- when both are equal and a number is needed, reserved grows by the block, at most to the largest number
 unfoldable pub grown : Blocks → ℕ
-grown s = if eqb s.last s.reserved then lesser (s.reserved + s.block) largest else s.reserved
+grown s = when eqb s.last s.reserved then lesser (s.reserved + s.block) largest else s.reserved
 
 -- the numbers themselves are document 01's. Coming back sets last used to reserved; it is the greater of the two, which needs no premise to forget
 -- no used number

@@ -10,7 +10,7 @@ use lib.ListN.{length, take, drop, replicate, length-append, length-replicate, r
 use lib.Seq.{take_at, drop_at, drop-drop}
 use lib.Dec.{eqb, leb, ltb}
 use Rattle.ground.specs.Bytes.{field}
-use Rattle.ground.specs.Choice.{if◌then◌else◌}
+use Rattle.ground.specs.Choice.{when◌then◌else◌}
 use Rattle.ground.specs.Lists.{at, without, All}
 use Rattle.ground.proofs.Lists.{Split, split, some_is, at_below, without_beyond, all_before, all_behind}
 use Rattle.ground.proofs.Tests.{by_test, and_left, and_right}
@@ -134,7 +134,7 @@ module _ {A : Type 0} {bytes : A → List ℕ} {reads : List ℕ → A} {Ok : A 
   -- ## A record taken out
 
   taken_there : (ps : List A) (k : ℕ) → All Ok ps → length ps ≤ 64 → k < length ps → taken_out (table_of bytes ps) (length ps) k ≡ table_of bytes (without ps k)
-  unfolding taken_out table_of laid if◌then◌else◌
+  unfolding taken_out table_of laid when◌then◌else◌
   taken_there ps k h m b =
       let s = split ps k b in
       let n = length ps in

@@ -7,7 +7,7 @@ use native.Mathlib.Omega.{arith}
 use borrow.Author.Tests.{ne_eqb, le-leb, lt-leb, lt-ltb, le-ltb, ltb-true}
 use lib.ListN.{length}
 use lib.Dec.{ltb}
-use Rattle.ground.specs.Choice.{if◌then◌else◌}
+use Rattle.ground.specs.Choice.{when◌then◌else◌}
 use Rattle.ground.specs.First.{first}
 use Rattle.ground.proofs.First.{none_wanting}
 use Rattle.ground.proofs.Tests.{and_left, and_right}
@@ -20,29 +20,29 @@ use Rattle.tables.proofs.Places.{is_long, is_few}
 -- the refusals in their order, from the tests that lead to them
 module _ (way : Way) (place : ℕ) (out : List ℕ) (sent : ℕ) (back : List ℕ) (returned : ℕ) where
   pub out_short : (length out ≡ 2048 → ⊥) → 2 ≡ show_refusal way place out sent back returned
-  unfolding show_refusal first if◌then◌else◌
+  unfolding show_refusal first when◌then◌else◌
   out_short h = rw (ne_eqb (length out) 2048 h)
 
   pub sent_many : length out ≡ 2048 → 64 < sent → 2 ≡ show_refusal way place out sent back returned
-  unfolding show_refusal first if◌then◌else◌
+  unfolding show_refusal first when◌then◌else◌
   sent_many l h = rw (l, lt-leb sent 64 h)
 
   module _ (l : length out ≡ 2048) (h : sent ≤ 64) where
     pub back_short : (length back ≡ 2048 → ⊥) → 2 ≡ show_refusal way place out sent back returned
-    unfolding show_refusal first if◌then◌else◌
+    unfolding show_refusal first when◌then◌else◌
     back_short m = rw (l, le-leb sent 64 h, ne_eqb (length back) 2048 m)
 
     pub returned_many : length back ≡ 2048 → 64 < returned → 2 ≡ show_refusal way place out sent back returned
-    unfolding show_refusal first if◌then◌else◌
+    unfolding show_refusal first when◌then◌else◌
     returned_many m k = rw (l, le-leb sent 64 h, m, lt-leb returned 64 k)
 
     module _ (m : length back ≡ 2048) (k : returned ≤ 64) {n : ℕ} (e : n ≡ asked way sent returned) where
       pub none_there : n ≤ place → 3 ≡ show_refusal way place out sent back returned
-      unfolding show_refusal first if◌then◌else◌
+      unfolding show_refusal first when◌then◌else◌
       none_there j = rw (l, le-leb sent 64 h, m, le-leb returned 64 k, ← e, le-ltb place n j)
 
       pub one_there : place < n → 0 ≡ show_refusal way place out sent back returned
-      unfolding show_refusal first if◌then◌else◌
+      unfolding show_refusal first when◌then◌else◌
       one_there j = rw (l, le-leb sent 64 h, m, le-leb returned 64 k, ← e, lt-ltb place n j)
 
 pub ruleset show_refusals = (out_short, sent_many, back_short, returned_many, none_there, one_there)
@@ -73,18 +73,18 @@ module _ (way : Way) (place : ℕ) (out : List ℕ) (sent : ℕ) (back : List �
       }
 
   pub shown_none : (show_refusal way place out sent back returned ≡ 0 → ⊥) → [] ≡ shown way place out sent back returned
-  unfolding shown if◌then◌else◌
+  unfolding shown when◌then◌else◌
   shown_none h = rw (ne_eqb (show_refusal way place out sent back returned) 0 h)
 
   pub shown_some : show_refusal way place out sent back returned ≡ 0 → bytes_at (asked way out back) place ≡ shown way place out sent back returned
-  unfolding shown if◌then◌else◌
+  unfolding shown when◌then◌else◌
   shown_some h = rw h
 
   module _ (p q : ℕ × ℕ) where
     pub at_none : (show_refusal way place out sent back returned ≡ 0 → ⊥) → p ≡ shown_at way place out sent back returned p q
-    unfolding shown_at if◌then◌else◌
+    unfolding shown_at when◌then◌else◌
     at_none h = rw (ne_eqb (show_refusal way place out sent back returned) 0 h)
 
     pub at_some : show_refusal way place out sent back returned ≡ 0 → ((asked way p q).0, place * 32 + (asked way p q).1) ≡ shown_at way place out sent back returned p q
-    unfolding shown_at if◌then◌else◌
+    unfolding shown_at when◌then◌else◌
     at_some h = rw h

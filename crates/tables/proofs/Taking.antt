@@ -6,7 +6,7 @@ use native.Mathlib.Omega.{arith}
 use borrow.Author.Tests.{ne_eqb, le-leb, lt-leb, lt-ltb, le-ltb}
 use lib.ListN.{length, take, drop, replicate, length-append, length-drop}
 use lib.Seq.{length-take-le, take-add, drop_at, drop-drop}
-use Rattle.ground.specs.Choice.{if◌then◌else◌}
+use Rattle.ground.specs.Choice.{when◌then◌else◌}
 use Rattle.ground.specs.Bytes.{field}
 use Rattle.tables.specs.Table.{taken_out}
 use Rattle.tables.proofs.LentParts.{part, replaced, part_length, lent_at, back_at}
@@ -52,19 +52,19 @@ module _ (t : List ℕ) (a e : ℕ) (h : a + 32 ≤ e) (k : e ≤ length t) {m :
 -- what is left of a table: it is none, the count is too great, the place isn't there, and it is done
 module _ (t : List ℕ) (count place : ℕ) where
   pub out_short : (length t ≡ 2048 → ⊥) → t ≡ taken_out t count place
-  unfolding taken_out if◌then◌else◌
+  unfolding taken_out when◌then◌else◌
   out_short h = rw (ne_eqb (length t) 2048 h)
 
   pub out_many : length t ≡ 2048 → 64 < count → t ≡ taken_out t count place
-  unfolding taken_out if◌then◌else◌
+  unfolding taken_out when◌then◌else◌
   out_many l h = rw (l, lt-leb count 64 h)
 
   pub out_none : length t ≡ 2048 → count ≤ 64 → count ≤ place → t ≡ taken_out t count place
-  unfolding taken_out if◌then◌else◌
+  unfolding taken_out when◌then◌else◌
   out_none l h k = rw (l, le-leb count 64 h, le-ltb place count k)
 
   pub out_done : {m y : List ℕ} → length t ≡ 2048 → count ≤ 64 → place < count → m ≡ drop 32 (part t (place * 32) (count * 32)) ++ drop (length (part t (place * 32) (count * 32)) - 32) (part t (place * 32) (count * 32)) → y ≡ replicate (length (part (replaced t (place * 32) (count * 32) m) (count * 32 - 32) (count * 32))) 0 → replaced (replaced t (place * 32) (count * 32) m) (count * 32 - 32) (count * 32) y ≡ taken_out t count place
-  unfolding taken_out if◌then◌else◌
+  unfolding taken_out when◌then◌else◌
   out_done l h k e f =
       closed_up t (place * 32) (count * 32) (omega (arith, k)) (omega (arith, l, h)) e f ∙ rw (l, le-leb count 64 h, lt-ltb place count k)
 

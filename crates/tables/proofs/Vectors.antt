@@ -3,7 +3,7 @@ use Prim.Native.Nat.{ℕ}
 use mathlib.Core.Path.{◌≡◌, refl}
 use mathlib.Core.List.{List, [], ◌∷◌, map}
 use lib.ListN.{replicate}
-use Rattle.ground.specs.Choice.{if◌then◌else◌}
+use Rattle.ground.specs.Choice.{when◌then◌else◌}
 use Rattle.ground.specs.First.{first}
 use Rattle.tables.specs.declared.shown.Way.{Way}
 use Rattle.tables.specs.declared.shown.Way.TheVariants.{Out, Back}
@@ -39,7 +39,7 @@ both_apply =
     ∷ []
 
 pub two_before_three : map refusal_of both_apply ≡ replicate 6 2
-unfolding show_refusal first if◌then◌else◌
+unfolding show_refusal first when◌then◌else◌
 two_before_three = refl
 
 -- an empty table, one of 64 records, and the other table's count
@@ -47,14 +47,14 @@ abbrev no_place : List Asked
 no_place = asks Out 0 2048 0 2048 64 ∷ asks Back 0 2048 64 2048 0 ∷ asks Out 64 2048 64 2048 0 ∷ asks Back 64 2048 0 2048 64 ∷ []
 
 pub then_three : map refusal_of no_place ≡ replicate 4 3
-unfolding show_refusal first if◌then◌else◌
+unfolding show_refusal first when◌then◌else◌
 then_three = refl
 
 pub refused_part_empty : map part_of both_apply ≡ replicate 6 [] × map part_of no_place ≡ replicate 4 []
-unfolding shown show_refusal first if◌then◌else◌
+unfolding shown show_refusal first when◌then◌else◌
 refused_part_empty = (refl, refl)
 
 -- the last place of a full table
 pub last_place_shown : refusal_of (asks Back 63 2048 0 2048 64) ≡ 0 × part_of (asks Back 63 2048 0 2048 64) ≡ replicate 32 1
-unfolding shown show_refusal first if◌then◌else◌
+unfolding shown show_refusal first when◌then◌else◌
 last_place_shown = (refl, refl)

@@ -7,7 +7,7 @@ use lib.ListN.{length, get_or, take, replicate}
 use lib.Seq.{length-take-le}
 use contract.Lifetimes.{Lfts}
 use denote.Triple.Entry.{Args, Res}
-use Rattle.ground.specs.Choice.{if◌then◌else◌}
+use Rattle.ground.specs.Choice.{when◌then◌else◌}
 use Rattle.ground.proofs.Promise.{RulesOut, unequal}
 use Rattle.ground.proofs.Tests.{by_test}
 use Rattle.tables.specs.declared.shown.Way.TheVariants.{Out}
@@ -30,7 +30,7 @@ abbrev with_two : List ℕ
 with_two = replicate 32 1 ++ (replicate 32 2 ++ replicate 1984 0)
 
 first_out : (get_or (taken_out with_two 2 0) 0 0 ≡ 2) × (get_or (taken_out with_two 2 0) 32 0 ≡ 0)
-unfolding taken_out if◌then◌else◌
+unfolding taken_out when◌then◌else◌
 first_out = (refl, refl)
 
 two_begin : (get_or with_two 31 0 ≡ 1) × (get_or with_two 32 0 ≡ 2)
@@ -43,7 +43,7 @@ pub leaves_the_freed_place : RulesOut take-out-kinds.ps take-out-kinds.r take_ou
 leaves_the_freed_place κs a x s e w p = unequal (sym first_out.1 ∙ sym (ap (λ (t : List ℕ). get_or t 32 0) (p ∙ (λ i. taken_out (e.0 i) (e.1 i) (e.2 i)))) ∙ w ∙ ap (λ (t : List ℕ). get_or t 32 0) e.0 ∙ two_begin.1) refl
 
 none_out : (t : List ℕ) → taken_out t 1 1 ≡ t
-unfolding taken_out if◌then◌else◌
+unfolding taken_out when◌then◌else◌
 none_out t = by_test (is_table (length t) 1) (λ e. rw e) (λ e. rw e)
 
 -- the place that the count names
@@ -68,11 +68,11 @@ module _ (out back : List ℕ) (l : length out ≡ 2048) (m : length back ≡ 20
   granted = sym (one_there Out 0 out 1 back 0 l (omega arith) m (omega arith) refl (omega arith))
 
   first_shown : shown Out 0 out 1 back 0 ≡ take 32 out
-  unfolding shown if◌then◌else◌
+  unfolding shown when◌then◌else◌
   first_shown = rw granted
 
   first_lies : (p q : ℕ × ℕ) → (shown_at Out 0 out 1 back 0 p q).0 ≡ p.0
-  unfolding shown_at if◌then◌else◌
+  unfolding shown_at when◌then◌else◌
   first_lies p q = rw granted
 
 pub takes_the_other_count : RulesOut show-refusal-kinds.ps show-refusal-kinds.r show-refusal.Post (λ κs a. (a.0 ≡ Out) × (a.1.0 ≡ 0) × (length a.1.1.0.now ≡ 2048) × (a.1.1.1.0 ≡ 1) × (length a.1.1.1.1.0.now ≡ 2048) × (a.1.1.1.1.1.0 ≡ 0)) (λ κs a x s. x ≡ 3)

@@ -1,6 +1,6 @@
 -- Showing what a place holds: the refusal, the bytes, and where they lie. Assumes nothing.
 use Rattle.std.specs.Prelude.{ℕ, ◌+◌, ◌*◌, not, ◌&&◌, List, [], ◌∷◌, length, eqb, ltb}
-use Rattle.ground.specs.Choice.{if◌then◌else◌}
+use Rattle.ground.specs.Choice.{when◌then◌else◌}
 use Rattle.ground.specs.First.{first}
 use Rattle.std.specs.Borrow.{Bor}
 use Rattle.tables.specs.declared.shown.Shown.{Shown}
@@ -24,12 +24,12 @@ show_refusal way place out sent back returned =
 -- the 32 bytes at the place; an empty part on a refusal
 unfoldable pub shown : Way → ℕ → List ℕ → ℕ → List ℕ → ℕ → List ℕ
 shown way place out sent back returned =
-    if eqb (show_refusal way place out sent back returned) 0 then bytes_at (asked way out back) place else []
+    when eqb (show_refusal way place out sent back returned) 0 then bytes_at (asked way out back) place else []
 
 -- a block, and an offset in it: the part lies in the table that was asked for, an empty one at the start of the first
 unfoldable pub shown_at : Way → ℕ → List ℕ → ℕ → List ℕ → ℕ → ℕ × ℕ → ℕ × ℕ → ℕ × ℕ
 shown_at way place out sent back returned p q =
-    if eqb (show_refusal way place out sent back returned) 0 then ((asked way p q).0, place * 32 + (asked way p q).1) else p
+    when eqb (show_refusal way place out sent back returned) 0 then ((asked way p q).0, place * 32 + (asked way p q).1) else p
 
 -- ## What a caller has of it: the refusal, the part's bytes, and where they lie
 

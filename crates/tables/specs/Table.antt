@@ -1,7 +1,7 @@
 -- A table: 2,048 bytes, 64 places of 32 bytes. What it holds, and what is made of it. Assumes nothing.
 use Rattle.std.specs.Prelude.{ℕ, zero, suc, ◌+◌, ◌-◌, ◌*◌, Bool, ◌&&◌, List, [], ◌∷◌, ◌++◌, length, take, drop, replicate, eqb, leb, ltb}
 use Rattle.ground.specs.Bytes.{field}
-use Rattle.ground.specs.Choice.{if◌then◌else◌}
+use Rattle.ground.specs.Choice.{when◌then◌else◌}
 
 -- a table's length, and a count that it has places for
 abbrev pub is_table : ℕ → ℕ → Bool
@@ -38,6 +38,6 @@ cleared t = replicate (length t) 0
 -- a record taken out: those before it, the later ones a place down, the freed place cleared, and what is above the count
 unfoldable pub taken_out : List ℕ → ℕ → ℕ → List ℕ
 taken_out t count place =
-    if is_table (length t) count && ltb place count
+    when is_table (length t) count && ltb place count
     then take (place * 32) t ++ (field t (place * 32 + 32) (count * 32 - (place * 32 + 32)) ++ (replicate 32 0 ++ drop (count * 32) t))
     else t

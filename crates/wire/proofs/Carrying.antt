@@ -5,7 +5,7 @@ use mathlib.Core.Bool.{true, false, true≢false, false≢true}
 use mathlib.Core.List.{List}
 use lib.ListN.{set}
 use Rattle.ground.specs.Bytes.{Bytes}
-use Rattle.ground.specs.Choice.{if◌then◌else◌}
+use Rattle.ground.specs.Choice.{when◌then◌else◌}
 use Rattle.wire.specs.declared.NumberRecord.{NumberRecord}
 use Rattle.wire.specs.declared.NumberRecord.TheVariants.{ConsoleOld, ControllerOld, Console, Controller}
 use Rattle.wire.specs.declared.ReadRecord.TheVariants.{Is}
@@ -95,14 +95,14 @@ module _ (s : List ℕ) (bytes : Bytes s) {r : NumberRecord} (read : record_read
 -- ## New to old to new
 
 renewed_aged : (r : NumberRecord) → is_old r ≡ false → record_bytes (renewed (aged r)) ≡ with_64 (record_bytes r)
-unfolding record_bytes bytes_of if◌then◌else◌
+unfolding record_bytes bytes_of when◌then◌else◌
 renewed_aged (ConsoleOld j) o = absurd (true≢false o)
 renewed_aged (ControllerOld i) o = absurd (true≢false o)
 renewed_aged (Console j b) o = refl
 renewed_aged (Controller i b) o = refl
 
 same_64 : (r : NumberRecord) → is_old r ≡ false → block_of r ≡ 64 → with_64 (record_bytes r) ≡ record_bytes r
-unfolding record_bytes bytes_of if◌then◌else◌
+unfolding record_bytes bytes_of when◌then◌else◌
 same_64 (ConsoleOld j) o e = absurd (true≢false o)
 same_64 (ControllerOld i) o e = absurd (true≢false o)
 same_64 (Console j b) o e = rw e

@@ -2,7 +2,7 @@
 use mathlib.Core.Path.{◌≡◌, subst}
 use mathlib.Core.Bool.{Bool, true}
 use mathlib.Core.List.{List, [], ◌∷◌}
-use Rattle.ground.specs.Choice.{if◌then◌else◌}
+use Rattle.ground.specs.Choice.{when◌then◌else◌}
 use Rattle.ground.proofs.Tests.{by_test}
 use Rattle.wire.specs.Frame.{found}
 
@@ -12,7 +12,7 @@ Each P (a ∷ rest) = P a × Each P rest
 
 module _ {A B : Type 0} (test : A → Bool) (is : A → B) (none : B) (one : (a b : A) → is a ≡ is b → a ≡ b) (other : (a : A) → none ≡ is a → ⊥) where
   pub found_passes : (P : A → Type 0) (l : List A) → Each P l → {a : A} → found test is none l ≡ is a → (test a ≡ true) × P a
-  unfolding if◌then◌else◌
+  unfolding when◌then◌else◌
   found_passes P [] ps e = absurd (other _ e)
   found_passes P (c ∷ l) ps {a} e =
       by_test (test c)

@@ -5,7 +5,7 @@ use mathlib.Core.Bool.{Bool, true, ◌&&◌, not}
 use native.Mathlib.Omega.{arith}
 use borrow.Author.Tests.{eq-eqb, eqb-true}
 use lib.Dec.{eqb}
-use Rattle.ground.specs.Choice.{if◌then◌else◌}
+use Rattle.ground.specs.Choice.{when◌then◌else◌}
 use Rattle.ground.proofs.Tests.{and_left, and_right}
 use Rattle.wire.specs.declared.Head.{Head}
 use Rattle.wire.specs.declared.Head.TheVariants.{NeedI, Offer, Data, Ok, Lost, Done}
@@ -15,7 +15,7 @@ use Rattle.wire.proofs.Found.{found_passes}
 
 -- a head is the one with its kind and its numbers
 pub own_head : (h : Head) → numbered h ≡ true → head_of (kind_of h) (first_of h) (second_of h) ≡ Is h
-unfolding head_of if◌then◌else◌
+unfolding head_of when◌then◌else◌
 own_head (NeedI j) n = rw (and_left (not (eqb j.0 0)) true n)
 own_head (Offer j i) n =
     let a = not (eqb j.0 0) in

@@ -6,7 +6,7 @@ use mathlib.Core.Bool.{true, false≢true}
 use borrow.Author.Tests.{ne_eqb, eqb-true, eqb-false}
 use lib.ListN.{length, get_or, drop}
 use lib.Dec.{eqb}
-use Rattle.ground.specs.Choice.{if◌then◌else◌}
+use Rattle.ground.specs.Choice.{when◌then◌else◌}
 use Rattle.ground.proofs.Tests.{by_test}
 use Rattle.wire.specs.declared.Head.{Head}
 use Rattle.wire.specs.declared.ReadHead.TheVariants.{Refused, Is}
@@ -20,16 +20,16 @@ use Rattle.wire.proofs.Heads.{is_other, says}
 module _ (s : List ℕ) where
   -- what is not refused is read as it stands
   pub packet_read_lem : read_refusal s ≡ 0 → packet_read s ≡ record { head = head_at s; message = drop 16 s }
-  unfolding packet_read if◌then◌else◌
+  unfolding packet_read when◌then◌else◌
   packet_read_lem e = rw e
 
   pub refused_read : (read_refusal s ≡ 0 → ⊥) → packet_read s ≡ refused (read_refusal s)
-  unfolding packet_read if◌then◌else◌
+  unfolding packet_read when◌then◌else◌
   refused_read h = rw (ne_eqb (read_refusal s) 0 h)
 
   -- a head was read from what is not refused, and a refusal is the first
   pub head_unrefused : {h : Head} → (packet_read s).head ≡ Is h → read_refusal s ≡ 0
-  unfolding packet_read if◌then◌else◌
+  unfolding packet_read when◌then◌else◌
   head_unrefused {h} e =
       by_test (eqb (read_refusal s) 0) (λ t. eqb-true (read_refusal s) 0 t) (λ f. absurd (is_other (read_refusal s) h (rw f at e)))
 

@@ -5,7 +5,7 @@ use mathlib.Core.List.{List, [], ◌∷◌}
 use mathlib.Core.Bool.{Bool, true, false, not}
 use borrow.Author.Tests.{ne_eqb, eq-eqb}
 use lib.ListN.{length, get_or, take, drop}
-use Rattle.ground.specs.Choice.{if◌then◌else◌}
+use Rattle.ground.specs.Choice.{when◌then◌else◌}
 use Rattle.ground.specs.First.{first}
 use Rattle.ground.proofs.First.{first_applies, first_passes, first_kept, first_more}
 use Rattle.wire.specs.declared.Head.{Head}
@@ -39,23 +39,23 @@ message_copied s l e = e ∙ sym (ap (λ (n : ℕ). take (n - 16) (drop 16 s)) l
 
 module _ (s : List ℕ) where
   pub read_short : (length s ≡ 32 → ⊥) → packet_read s ≡ refused 12
-  unfolding packet_read read_refusal if◌then◌else◌
+  unfolding packet_read read_refusal when◌then◌else◌
   read_short h = rw (refusal_length 32 0x4C 1 s _ h)
 
   pub read_length : (length s ≡ 32 → ⊥) → read_head.Refused 12 ≡ (packet_read s).head
   read_length h = sym (ap (λ (r : ReadPacket). r.head) (read_short h))
 
   pub read_frame : {n : ℕ} → length s ≡ 32 → n ≡ first (frame_refusals 0x4C 1 s) → (n ≡ 0 → ⊥) → read_head.Refused n ≡ (packet_read s).head
-  unfolding packet_read read_refusal if◌then◌else◌
+  unfolding packet_read read_refusal when◌then◌else◌
   read_frame {n} l e h = rw (refusal_frame 32 0x4C 1 s _ l (λ z. h (e ∙ z)), ← e, ne_eqb n 0 h)
 
   module _ {n : ℕ} {h : ReadHead} {r : Bool} (l : length s ≡ 32) (e : n ≡ first (frame_refusals 0x4C 1 s)) (z : n ≡ 0) (f : h ≡ head_at s) (g : r ≡ carries h (take (length s - 16) (drop 16 s))) where
     pub read_fields : r ≡ false → read_head.Refused 15 ≡ (packet_read s).head
-    unfolding packet_read read_refusal first if◌then◌else◌
+    unfolding packet_read read_refusal first when◌then◌else◌
     read_fields t = rw (refusal_fields 32 0x4C 1 s _ l (sym e ∙ z), ← f, ← rest_lent s 16, ← g, t)
 
     pub read_taken : r ≡ true → h ≡ (packet_read s).head
-    unfolding packet_read read_refusal first if◌then◌else◌
+    unfolding packet_read read_refusal first when◌then◌else◌
     read_taken t = rw (refusal_fields 32 0x4C 1 s _ l (sym e ∙ z), ← f, ← rest_lent s 16, ← g, t)
 
   -- the message beside a head that was read, and 16 zero bytes beside a refusal

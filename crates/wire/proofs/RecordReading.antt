@@ -7,7 +7,7 @@ use native.Mathlib.Omega.{arith}
 use borrow.Author.Tests.{eq-eqb, ne_eqb}
 use lib.ListN.{length, get_or}
 use lib.Dec.{eqb}
-use Rattle.ground.specs.Choice.{if◌then◌else◌}
+use Rattle.ground.specs.Choice.{when◌then◌else◌}
 use Rattle.ground.specs.First.{first}
 use Rattle.ground.proofs.Elements.{field_elements}
 use Rattle.ground.proofs.Promise.{unequal}
@@ -22,7 +22,7 @@ use Rattle.wire.proofs.Reading.{refusal_length, refusal_frame, refusal_fields}
 
 -- an end that is no end is 15
 unread : (test : NumberRecord → Bool) (l : List NumberRecord) → is_read (found test Is (Refused 15) l) ≡ false → found test Is (Refused 15) l ≡ Refused 15
-unfolding if◌then◌else◌
+unfolding when◌then◌else◌
 unread test [] e = refl
 unread test (r ∷ l) e = by_test (test r) (λ t. absurd (true≢false (rw t at e))) (λ f. rw f (unread test l (rw f at e)))
 
@@ -37,33 +37,33 @@ new_fields s = is_read (record_at s) && is_block (block_at s) && bytes_are s 14 
 -- the length says by which version bytes are read
 module _ (s : List ℕ) where
   pub as_old : (length s ≡ 16 → ⊥) → record_refusal s ≡ first (read_refusals 12 0x4E 1 s (is_read (record_at s)))
-  unfolding record_refusal if◌then◌else◌
+  unfolding record_refusal when◌then◌else◌
   as_old h = rw (ne_eqb (length s) 16 h)
 
   pub as_new : length s ≡ 16 → record_refusal s ≡ first (read_refusals 16 0x4E 2 s (new_fields s))
-  unfolding record_refusal if◌then◌else◌
+  unfolding record_refusal when◌then◌else◌
   as_new l = rw (eq-eqb (length s) 16 l)
 
   pub old_block : (length s ≡ 16 → ⊥) → block_at s ≡ 0
-  unfolding block_at if◌then◌else◌
+  unfolding block_at when◌then◌else◌
   old_block h = rw (ne_eqb (length s) 16 h)
 
   pub new_block : length s ≡ 16 → block_at s ≡ value (field s 12 2)
-  unfolding block_at if◌then◌else◌
+  unfolding block_at when◌then◌else◌
   new_block l = rw (eq-eqb (length s) 16 l)
 
   -- what is refused, and what is not
   pub refused_so : {n : ℕ} → record_refusal s ≡ n → (n ≡ 0 → ⊥) → Refused n ≡ record_read s
-  unfolding record_read if◌then◌else◌
+  unfolding record_read when◌then◌else◌
   refused_so {n} e h = rw (e, ne_eqb n 0 h)
 
   pub read_so : record_refusal s ≡ 0 → record_read s ≡ record_at s
-  unfolding record_read if◌then◌else◌
+  unfolding record_read when◌then◌else◌
   read_so e = rw e
 
   -- all but the end passes
   fields_so : record_refusal s ≡ first ((15, not (is_read (record_at s))) ∷ []) → record_at s ≡ record_read s
-  unfolding record_at first if◌then◌else◌
+  unfolding record_at first when◌then◌else◌
   fields_so e =
       by_test (is_read (record_at s)) (λ t. sym (read_so (e ∙ rw t)))
       (λ f. no_end (get_or s 5 0) (value (field s 8 4)) (block_at s) f ∙ refused_so (e ∙ rw f) (λ z. unequal z refl))
@@ -108,7 +108,7 @@ module _ (s : List ℕ) {n : ℕ} (l : length s ≡ 16) (e : n ≡ first (frame_
         ∙ rw (block, ← g) (ap (λ (t : Bool). first ((15, not t) ∷ [])) (regroup (is_read (record_at s)) v (eqb (get_or s 14 0) 0) (eqb (get_or s 15 0) 0)))
 
     pub new_15 : (v && eqb (get_or s 14 0) 0 && eqb (get_or s 15 0) 0) ≡ false → Refused 15 ≡ record_read s
-    unfolding first if◌then◌else◌
+    unfolding first when◌then◌else◌
     new_15 t = refused_so s (tested ∙ rw (t, and-false)) (λ y. unequal y refl)
 
     pub new_taken : {k : ℕ} {x : ReadRecord} → (v && eqb (get_or s 14 0) 0 && eqb (get_or s 15 0) 0) ≡ true → k ≡ value (field s 8 4) → x ≡ record_of (get_or s 5 0) k b → x ≡ record_read s

@@ -8,7 +8,7 @@ use borrow.Author.Tests.{ne_eqb, eqb-true, eqb-false, leb-true}
 use lib.ListN.{length, get_or, drop, drop_of_length-le}
 use lib.Dec.{eqb, leb}
 use Rattle.ground.specs.Bytes.{Bytes}
-use Rattle.ground.specs.Choice.{if◌then◌else◌}
+use Rattle.ground.specs.Choice.{when◌then◌else◌}
 use Rattle.ground.specs.First.{first}
 use Rattle.ground.proofs.Elements.{rest_elements}
 use Rattle.ground.proofs.Tests.{by_test, and_left, and_right}
@@ -38,7 +38,7 @@ below b g = let h = leb-true b 1024 (and_right (leb 1 b) (leb b 1024) g) in omeg
 -- ## What is written reads back
 
 pub own_record : (r : NumberRecord) → is_good r ≡ true → record_of (end_of r) (number_of r) (block_of r) ≡ Is r
-unfolding record_of if◌then◌else◌
+unfolding record_of when◌then◌else◌
 own_record (ConsoleOld j) g = refl
 own_record (ControllerOld i) g = refl
 own_record (Console j b) g = rw (above b g)
@@ -46,11 +46,11 @@ own_record (Controller i b) g = rw (above b g)
 
 module _ (e n : ℕ) {r : NumberRecord} (t : n < 2 ^ 32) (q : record_of e n 0 ≡ Is r) where
   old_at : record_at (old_bytes e n) ≡ Is r
-  unfolding record_at block_at bytes_of if◌then◌else◌
+  unfolding record_at block_at bytes_of when◌then◌else◌
   old_at = rw (value_bytes_of 4 n t) q
 
   old_unrefused : record_refusal (old_bytes e n) ≡ 0
-  unfolding record_refusal bytes_of first if◌then◌else◌
+  unfolding record_refusal bytes_of first when◌then◌else◌
   old_unrefused = rw old_at
 
   old_back : record_read (old_bytes e n) ≡ Is r
@@ -58,7 +58,7 @@ module _ (e n : ℕ) {r : NumberRecord} (t : n < 2 ^ 32) (q : record_of e n 0 �
 
 module _ (e n b : ℕ) {r : NumberRecord} (t : n < 2 ^ 32) (g : is_block b ≡ true) (q : record_of e n b ≡ Is r) where
   new_laid : block_at (new_bytes e n b) ≡ b
-  unfolding block_at bytes_of if◌then◌else◌
+  unfolding block_at bytes_of when◌then◌else◌
   new_laid = value_bytes_of 2 b (below b g)
 
   new_at : record_at (new_bytes e n b) ≡ Is r
@@ -66,7 +66,7 @@ module _ (e n b : ℕ) {r : NumberRecord} (t : n < 2 ^ 32) (g : is_block b ≡ t
   new_at = rw (new_laid, value_bytes_of 4 n t) q
 
   new_unrefused : record_refusal (new_bytes e n b) ≡ 0
-  unfolding record_refusal bytes_of first if◌then◌else◌
+  unfolding record_refusal bytes_of first when◌then◌else◌
   new_unrefused = rw (new_at, new_laid, g)
 
   new_back : record_read (new_bytes e n b) ≡ Is r
@@ -74,7 +74,7 @@ module _ (e n b : ℕ) {r : NumberRecord} (t : n < 2 ^ 32) (g : is_block b ≡ t
 
 -- a record whose number fits 32 bits and whose block, if it has one, is good
 pub record_read_back : (r : NumberRecord) → number_of r < 2 ^ 32 → is_good r ≡ true → record_read (record_bytes r) ≡ Is r
-unfolding record_bytes if◌then◌else◌
+unfolding record_bytes when◌then◌else◌
 record_read_back (ConsoleOld j) t g = old_back 1 j.0 t (own_record (ConsoleOld j) g)
 record_read_back (ControllerOld i) t g = old_back 2 i.0 t (own_record (ControllerOld i) g)
 record_read_back (Console j b) t g = new_back 1 j.0 b t g (own_record (Console j b) g)
@@ -104,7 +104,7 @@ module _ (e n b : ℕ) where
   As r = (n ≡ number_of r) × (b ≡ block_of r) × (is_old r ≡ eqb b 0)
 
   each_as : Each As (records n b)
-  unfolding if◌then◌else◌
+  unfolding when◌then◌else◌
   each_as =
       by_test (eqb b 0)
       (λ t. let z = eqb-true b 0 t in rw t ((refl, z, sym t), ((refl, z, sym t), tt)))
@@ -140,14 +140,14 @@ module _ (s : List ℕ) (z : record_refusal s ≡ 0) where
 
 -- a refusal is the first, and its number is not 0
 pub record_refused : (s : List ℕ) {n : ℕ} → record_read s ≡ Refused n → (record_refusal s ≡ n) × (n ≡ 0 → ⊥)
-unfolding record_read if◌then◌else◌
+unfolding record_read when◌then◌else◌
 record_refused s {n} e =
     by_test (eqb (record_refusal s) 0)
     (λ t. let u : record_at s ≡ Refused n = rw t at e in absurd (false≢true (rw u at (end_passes s (eqb-true (record_refusal s) 0 t)))))
     (λ f. let u : Refused (record_refusal s) ≡ Refused n = rw f at e in let q : record_refusal s ≡ n = cc in (q, λ z. eqb-false (record_refusal s) 0 f (q ∙ z)))
 
 pub record_unrefused : (s : List ℕ) {r : NumberRecord} → record_read s ≡ Is r → (record_refusal s ≡ 0) × (record_at s ≡ Is r)
-unfolding record_read if◌then◌else◌
+unfolding record_read when◌then◌else◌
 record_unrefused s {r} e =
     by_test (eqb (record_refusal s) 0)
     (λ t. (eqb-true (record_refusal s) 0 t, rw t at e))
@@ -184,7 +184,7 @@ pub record Loaded (s : List ℕ) (r : NumberRecord) : Type 0 where
 
 module _ (s : List ℕ) (b : Bytes s) {r : NumberRecord} (e : record_read s ≡ Is r) where
   loaded_old : (length s ≡ 16 → ⊥) → Loaded s r
-  unfolding record_bytes if◌then◌else◌
+  unfolding record_bytes when◌then◌else◌
   loaded_old h =
       let g = old_framed s (record_unrefused s e).0 h in
       let l = g.long in
@@ -199,7 +199,7 @@ module _ (s : List ℕ) (b : Bytes s) {r : NumberRecord} (e : record_read s ≡ 
       }
 
   loaded_new : length s ≡ 16 → Loaded s r
-  unfolding record_bytes if◌then◌else◌
+  unfolding record_bytes when◌then◌else◌
   loaded_new l =
       let z = (record_unrefused s e).0 in
       let m = made_of s e in

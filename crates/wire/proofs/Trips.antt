@@ -6,7 +6,7 @@ use mathlib.Core.List.{List}
 use native.Mathlib.Omega.{arith}
 use lib.ListN.{length, get_or, drop}
 use Rattle.ground.specs.Bytes.{Bytes}
-use Rattle.ground.specs.Choice.{if◌then◌else◌}
+use Rattle.ground.specs.Choice.{when◌then◌else◌}
 use Rattle.ground.specs.First.{first}
 use Rattle.wire.specs.declared.Packet.{Packet}
 use Rattle.wire.specs.declared.ReadHead.TheVariants.{Is}
@@ -26,7 +26,7 @@ module _ (p : Packet) (t : Typed p) (f : fits p ≡ true) where
   head_back = rw (value_bytes_of 4 (first_of p.head) t.first, value_bytes_of 4 (second_of p.head) t.second) (own_head p.head (fits_numbers p f))
 
   pub packet_passes : read_refusal (packet_bytes p) ≡ 0
-  unfolding read_refusal packet_bytes bytes_of first if◌then◌else◌
+  unfolding read_refusal packet_bytes bytes_of first when◌then◌else◌
   packet_passes = rw (message_sixteen p f, head_back, fits_message p f)
 
   -- a packet that can be written reads back

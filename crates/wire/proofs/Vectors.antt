@@ -4,7 +4,7 @@ use mathlib.Core.Path.{◌≡◌, refl}
 use mathlib.Core.List.{List, [], ◌∷◌, ◌++◌, map}
 use lib.ListN.{length, take, set, replicate}
 use Rattle.ground.specs.Cell.{cells, is_message, spaces}
-use Rattle.ground.specs.Choice.{if◌then◌else◌}
+use Rattle.ground.specs.Choice.{when◌then◌else◌}
 use Rattle.ground.specs.Every.{filled}
 use Rattle.ground.specs.First.{first}
 use Rattle.wire.specs.Number.{bytes_of, value}
@@ -29,7 +29,7 @@ unfolding packet_bytes bytes_of
 need_i_1_written = refl
 
 pub need_i_1_read : packet_read need_i_1 ≡ accepted (need_i 1)
-unfolding packet_read read_refusal head_at head_of value bytes_of first if◌then◌else◌ is_blank filled
+unfolding packet_read read_refusal head_at head_of value bytes_of first when◌then◌else◌ is_blank filled
 need_i_1_read = refl
 
 abbrev zeros : List ℕ
@@ -62,11 +62,11 @@ packets_go : map (λ (v : Packet × List ℕ). direction_of v.0.head) packets
 packets_go = refl
 
 packets_written : map (λ (v : Packet × List ℕ). packet_written (replicate 32 7) v.0) packets ≡ map (λ (v : Packet × List ℕ). v.1) packets
-unfolding packet_written write_refusal fits packet_bytes bytes_of first if◌then◌else◌ is_blank is_message cells filled
+unfolding packet_written write_refusal fits packet_bytes bytes_of first when◌then◌else◌ is_blank is_message cells filled
 packets_written = refl
 
 packets_read : map (λ (v : Packet × List ℕ). packet_read v.1) packets ≡ map (λ (v : Packet × List ℕ). accepted v.0) packets
-unfolding packet_read read_refusal head_at head_of value bytes_of first if◌then◌else◌ is_blank is_message cells filled
+unfolding packet_read read_refusal head_at head_of value bytes_of first when◌then◌else◌ is_blank is_message cells filled
 packets_read = refl
 
 -- bytes that are refused, and their first refusal
@@ -93,7 +93,7 @@ refusals =
     ∷ []
 
 packets_refused : map (λ (v : List ℕ × ℕ). packet_read v.0) refusals ≡ map (λ (v : List ℕ × ℕ). refused v.1) refusals
-unfolding packet_read read_refusal head_at head_of value bytes_of first if◌then◌else◌ is_blank is_message cells filled
+unfolding packet_read read_refusal head_at head_of value bytes_of first when◌then◌else◌ is_blank is_message cells filled
 packets_refused = refl
 
 -- packets that can't be written, to 32 bytes and to 31
@@ -106,11 +106,11 @@ unfit =
     ∷ []
 
 unfit_15 : map (write_refusal 32) unfit ≡ replicate 4 15
-unfolding write_refusal fits first if◌then◌else◌ is_blank is_message cells filled
+unfolding write_refusal fits first when◌then◌else◌ is_blank is_message cells filled
 unfit_15 = refl
 
 unfit_12 : map (write_refusal 31) unfit ≡ replicate 4 12
-unfolding write_refusal first if◌then◌else◌
+unfolding write_refusal first when◌then◌else◌
 unfit_12 = refl
 
 -- records of both versions and both ends, and their bytes
@@ -125,11 +125,11 @@ records =
     ∷ []
 
 records_written : map (λ (v : NumberRecord × List ℕ). record_written (replicate (length v.1) 7) v.0) records ≡ map (λ (v : NumberRecord × List ℕ). v.1) records
-unfolding record_written record_write_refusal record_bytes bytes_of first if◌then◌else◌
+unfolding record_written record_write_refusal record_bytes bytes_of first when◌then◌else◌
 records_written = refl
 
 records_read : map (λ (v : NumberRecord × List ℕ). record_read v.1) records ≡ map (λ (v : NumberRecord × List ℕ). Is v.0) records
-unfolding record_read record_refusal record_at block_at record_of value bytes_of first if◌then◌else◌
+unfolding record_read record_refusal record_at block_at record_of value bytes_of first when◌then◌else◌
 records_read = refl
 
 -- carried to version 2, and back
@@ -175,11 +175,11 @@ record_refusals =
     ∷ []
 
 records_refused : map (λ (v : List ℕ × ℕ). record_read v.0) record_refusals ≡ map (λ (v : List ℕ × ℕ). Refused v.1) record_refusals
-unfolding record_read record_refusal record_at block_at record_of value bytes_of first if◌then◌else◌
+unfolding record_read record_refusal record_at block_at record_of value bytes_of first when◌then◌else◌
 records_refused = refl
 
 -- each version to the other's length, and blocks that are none
 records_unwritten : record_write_refusal 16 (ConsoleOld (record { 0 = 7 })) ∷ record_write_refusal 12 (Console (record { 0 = 7 }) 64) ∷ record_write_refusal 12 (Console (record { 0 = 7 }) 0) ∷ map (λ (b : ℕ). record_write_refusal 16 (Controller (record { 0 = 7 }) b)) (0 ∷ 1 ∷ 1024 ∷ 1025 ∷ [])
     ≡ 12 ∷ 12 ∷ 12 ∷ 15 ∷ 0 ∷ 0 ∷ 15 ∷ []
-unfolding record_write_refusal first if◌then◌else◌
+unfolding record_write_refusal first when◌then◌else◌
 records_unwritten = refl

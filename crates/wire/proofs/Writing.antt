@@ -10,7 +10,7 @@ use borrow.Rule.Slice.PartMut.{put_mid}
 use lib.ListN.{length, drop, drop_of_length-le, length-drop, length-append}
 use lib.Seq.{take_at}
 use lib.Dec.{eqb}
-use Rattle.ground.specs.Choice.{if◌then◌else◌}
+use Rattle.ground.specs.Choice.{when◌then◌else◌}
 use Rattle.ground.specs.First.{first}
 use Rattle.ground.proofs.First.{none_wanting}
 use Rattle.wire.specs.declared.Head.{Head}
@@ -47,7 +47,7 @@ packet_put p out {x} {y} h e l k =
 
 -- a packet can be written to 32 bytes exactly where it fits
 pub writable : (p : Packet) → fits p ≡ true → write_refusal 32 p ≡ 0
-unfolding write_refusal first if◌then◌else◌
+unfolding write_refusal first when◌then◌else◌
 writable p f = rw f
 
 pub written_fits : (n : ℕ) (p : Packet) → write_refusal n p ≡ 0 → (n ≡ 32) × (fits p ≡ true)
@@ -60,24 +60,24 @@ written_fits n p e =
 -- a write of a packet: its length is wrong, it doesn't fit, and it is written
 module _ (out : List ℕ) (p : Packet) where
   pub write_12 : (length out ≡ 32 → ⊥) → 12 ≡ write_refusal (length out) p
-  unfolding write_refusal first if◌then◌else◌
+  unfolding write_refusal first when◌then◌else◌
   write_12 h = rw (ne_eqb (length out) 32 h)
 
   pub write_15 : {r : Bool} → length out ≡ 32 → r ≡ fits p → r ≡ false → 15 ≡ write_refusal (length out) p
-  unfolding write_refusal first if◌then◌else◌
+  unfolding write_refusal first when◌then◌else◌
   write_15 l e f = rw (l, ← e, f)
 
   pub write_0 : {r : Bool} → length out ≡ 32 → r ≡ fits p → r ≡ true → 0 ≡ write_refusal (length out) p
-  unfolding write_refusal first if◌then◌else◌
+  unfolding write_refusal first when◌then◌else◌
   write_0 l e t = rw (l, ← e, t)
 
   -- a refusal leaves the bytes, and else they are the packet's
   pub out_kept : (write_refusal (length out) p ≡ 0 → ⊥) → packet_written out p ≡ out
-  unfolding packet_written if◌then◌else◌
+  unfolding packet_written when◌then◌else◌
   out_kept h = rw (ne_eqb (write_refusal (length out) p) 0 h)
 
   pub packet_written_lem : length out ≡ 32 → fits p ≡ true → packet_written out p ≡ packet_bytes p
-  unfolding packet_written if◌then◌else◌
+  unfolding packet_written when◌then◌else◌
   packet_written_lem l f = rw (← write_0 l (sym f) refl)
 
   pub written_12 : (length out ≡ 32 → ⊥) → out ≡ packet_written out p

@@ -7,7 +7,7 @@ use lib.ListN.{length, get_or, take, set, replicate}
 use contract.Lifetimes.{Lfts}
 use borrow.Fn.Kinds.{Dens, ended_of}
 use denote.Triple.Clauses.{AtExit}
-use Rattle.ground.specs.Choice.{if◌then◌else◌}
+use Rattle.ground.specs.Choice.{when◌then◌else◌}
 use Rattle.ground.specs.Every.{filled}
 use Rattle.ground.specs.First.{first}
 use Rattle.ground.proofs.Promise.{RulesOut, unequal, clash}
@@ -72,7 +72,7 @@ always_refuses κs a x s e w p =
     is_other w.0 (NeedI (record { 0 = 1 })) (ap (λ (r : ReadPacket). r.head) q)
 
 pub accepts_everything : RulesOut read-packet-kinds.ps read-packet-kinds.r read-packet.Post (λ κs a. a.0.now ≡ []) (λ κs a x s. (p : Packet) × (x ≡ accepted p))
-unfolding packet_read read_refusal first if◌then◌else◌
+unfolding packet_read read_refusal first when◌then◌else◌
 accepts_everything κs a x s e w p =
     let q : accepted w.0 ≡ refused 12 = sym w.1 ∙ p ∙ ap packet_read e in
     is_other 12 w.0.head (sym (ap (λ (r : ReadPacket). r.head) q))
@@ -85,19 +85,19 @@ taken : (at byte n : ℕ) → packet_read (set need_i_1 at byte) ≡ refused n �
 taken at byte n r κs a x s e w p = is_other n (NeedI (record { 0 = 1 })) (sym (ap (λ (q : ReadPacket). q.head) (p ∙ ap packet_read e ∙ r)) ∙ w)
 
 pub takes_another_mark : Takes 1 0x54
-unfolding packet_read read_refusal head_at head_of value bytes_of first if◌then◌else◌ is_blank filled
+unfolding packet_read read_refusal head_at head_of value bytes_of first when◌then◌else◌ is_blank filled
 takes_another_mark = taken 1 0x54 13 refl
 
 pub takes_version_2 : Takes 4 2
-unfolding packet_read read_refusal head_at head_of value bytes_of first if◌then◌else◌ is_blank filled
+unfolding packet_read read_refusal head_at head_of value bytes_of first when◌then◌else◌ is_blank filled
 takes_version_2 = taken 4 2 14 refl
 
 pub takes_a_space_for_a_zero : Takes 16 0x20
-unfolding packet_read read_refusal head_at head_of value bytes_of first if◌then◌else◌ is_blank filled
+unfolding packet_read read_refusal head_at head_of value bytes_of first when◌then◌else◌ is_blank filled
 takes_a_space_for_a_zero = taken 16 0x20 15 refl
 
 pub reads_31_bytes_as_13 : RulesOut read-packet-kinds.ps read-packet-kinds.r read-packet.Post (λ κs a. a.0.now ≡ take 31 need_i_1) (λ κs a x s. x ≡ refused 13)
-unfolding packet_read read_refusal first if◌then◌else◌
+unfolding packet_read read_refusal first when◌then◌else◌
 reads_31_bytes_as_13 κs a x s e w p =
     let q : Refused 13 ≡ Refused 12 = ap (λ (r : ReadPacket). r.head) (sym w ∙ p ∙ ap packet_read e) in
     let z : ◌≡◌ {A = ℕ} 13 12 = cc in
@@ -109,7 +109,7 @@ refuses_every_head κs a x s e w p =
     is_other w.0 (NeedI (record { 0 = 1 })) (sym w.1 ∙ p ∙ ap (λ (r : ReadPacket). r.head) (ap packet_read e ∙ need_i_1_read))
 
 pub looks_at_no_message : RulesOut read-head-kinds.ps read-head-kinds.r read_head.Post (λ κs a. a.0.now ≡ set need_i_1 31 1) (λ κs a x s. x ≡ Is (NeedI (record { 0 = 1 })))
-unfolding packet_read read_refusal head_at head_of value bytes_of first if◌then◌else◌ is_blank filled
+unfolding packet_read read_refusal head_at head_of value bytes_of first when◌then◌else◌ is_blank filled
 looks_at_no_message κs a x s e w p = is_other 15 (NeedI (record { 0 = 1 })) (sym (p ∙ ap (λ (l : List ℕ). (packet_read l).head) e) ∙ w)
 
 -- a writer that is lent zero bytes
@@ -123,19 +123,19 @@ changes_nothing κs a x s e w p =
     unequal (ap (λ (l : List ℕ). get_or l 0 0) q) refl
 
 pub touches_on_15 : Writes 32 (need_i 0) (λ κs a x s. s.0.now ≡ a.0.now → ⊥)
-unfolding packet_written write_refusal fits first if◌then◌else◌
+unfolding packet_written write_refusal fits first when◌then◌else◌
 touches_on_15 κs a x s e w p = w (p.1 ∙ (λ i. packet_written (e.0 i) (e.1 i)) ∙ sym e.0)
 
 pub always_writes : Writes 32 (need_i 0) (λ κs a x s. x ≡ 0)
-unfolding write_refusal fits first if◌then◌else◌
+unfolding write_refusal fits first when◌then◌else◌
 always_writes κs a x s e w p = unequal (sym w ∙ p.0 ∙ (λ i. write_refusal (length (e.0 i)) (e.1 i))) refl
 
 pub says_12_outside_the_table : Writes 32 (need_i 0) (λ κs a x s. x ≡ 12)
-unfolding write_refusal fits first if◌then◌else◌
+unfolding write_refusal fits first when◌then◌else◌
 says_12_outside_the_table κs a x s e w p = unequal (sym w ∙ p.0 ∙ (λ i. write_refusal (length (e.0 i)) (e.1 i))) refl
 
 pub says_15_of_31_bytes : Writes 31 (need_i 0) (λ κs a x s. x ≡ 15)
-unfolding write_refusal first if◌then◌else◌
+unfolding write_refusal first when◌then◌else◌
 says_15_of_31_bytes κs a x s e w p = unequal (sym w ∙ p.0 ∙ (λ i. write_refusal (length (e.0 i)) (e.1 i))) refl
 
 -- ## Number records
@@ -144,7 +144,7 @@ pub always_refuses_record : RulesOut read-record-kinds.ps read-record-kinds.r re
 always_refuses_record κs a x s e w p = is-unread w.0 unused (sym w.1 ∙ p ∙ ap record_read e ∙ record_read_back unused (omega arith) refl)
 
 pub accepts_every_record : RulesOut read-record-kinds.ps read-record-kinds.r read-record.Post (λ κs a. a.0.now ≡ []) (λ κs a x s. (r : NumberRecord) × (x ≡ Recorded r))
-unfolding record_read record_refusal first if◌then◌else◌
+unfolding record_read record_refusal first when◌then◌else◌
 accepts_every_record κs a x s e w p = is-unread 12 w.0 (sym (p ∙ ap record_read e) ∙ w.1)
 
 -- a reader that takes bytes that it should have refused by this number
@@ -159,27 +159,27 @@ abbrev new : ℕ → ℕ → List ℕ
 new version block = 0x48 ∷ 0x53 ∷ 0x4E ∷ 0 ∷ version ∷ 1 ∷ 0 ∷ 0 ∷ 0 ∷ 0 ∷ 0 ∷ 7 ∷ bytes_of 2 block ++ (0 ∷ 0 ∷ [])
 
 pub takes_version_2_of_12_bytes : TakesRecord (take 12 (new 2 64))
-unfolding record_read record_refusal record_at block_at record_of value bytes_of first if◌then◌else◌
+unfolding record_read record_refusal record_at block_at record_of value bytes_of first when◌then◌else◌
 takes_version_2_of_12_bytes = took (take 12 (new 2 64)) 14 refl
 
 pub takes_version_1_of_16_bytes : TakesRecord (new 1 64)
-unfolding record_read record_refusal record_at block_at record_of value bytes_of first if◌then◌else◌
+unfolding record_read record_refusal record_at block_at record_of value bytes_of first when◌then◌else◌
 takes_version_1_of_16_bytes = took (new 1 64) 14 refl
 
 pub takes_block_0 : TakesRecord (new 2 0)
-unfolding record_read record_refusal record_at block_at record_of value bytes_of first if◌then◌else◌
+unfolding record_read record_refusal record_at block_at record_of value bytes_of first when◌then◌else◌
 takes_block_0 = took (new 2 0) 15 refl
 
 pub takes_block_1025 : TakesRecord (new 2 1025)
-unfolding record_read record_refusal record_at block_at record_of value bytes_of first if◌then◌else◌
+unfolding record_read record_refusal record_at block_at record_of value bytes_of first when◌then◌else◌
 takes_block_1025 = took (new 2 1025) 15 refl
 
 pub takes_a_byte_after_the_block : TakesRecord (set (new 2 64) 15 1)
-unfolding record_read record_refusal record_at block_at record_of value bytes_of first if◌then◌else◌
+unfolding record_read record_refusal record_at block_at record_of value bytes_of first when◌then◌else◌
 takes_a_byte_after_the_block = took (set (new 2 64) 15 1) 15 refl
 
 pub says_14_before_13 : RulesOut read-record-kinds.ps read-record-kinds.r read-record.Post (λ κs a. a.0.now ≡ set (new 1 64) 0 0x49) (λ κs a x s. x ≡ Unread 14)
-unfolding record_read record_refusal bytes_of first if◌then◌else◌
+unfolding record_read record_refusal bytes_of first when◌then◌else◌
 says_14_before_13 κs a x s e w p =
     let q : Unread 14 ≡ Unread 13 = sym w ∙ p ∙ ap record_read e in
     let z : ◌≡◌ {A = ℕ} 14 13 = cc in
@@ -190,22 +190,22 @@ abbrev WritesRecord : List ℕ → NumberRecord → ((κs : Lfts 1) → Dens κs
 WritesRecord out r does = RulesOut write-record-kinds.ps write-record-kinds.r write-record.Post (λ κs a. (a.0.now ≡ out) × (a.1.0 ≡ r)) does
 
 pub changes_no_record : WritesRecord (replicate 12 0) unused (λ κs a x s. s.0.now ≡ a.0.now)
-unfolding record_written record_write_refusal record_bytes first if◌then◌else◌
+unfolding record_written record_write_refusal record_bytes first when◌then◌else◌
 changes_no_record κs a x s e w p =
     let q : replicate 12 0 ≡ record_bytes unused = sym e.0 ∙ sym w ∙ p.1 ∙ (λ i. record_written (e.0 i) (e.1 i)) in
     unequal (ap (λ (l : List ℕ). get_or l 0 0) q) refl
 
 -- one that looks for 12 bytes at least
 pub writes_to_13_bytes : WritesRecord (replicate 13 0) unused (λ κs a x s. x ≡ 0)
-unfolding record_write_refusal first if◌then◌else◌
+unfolding record_write_refusal first when◌then◌else◌
 writes_to_13_bytes κs a x s e w p = unequal (sym w ∙ p.0 ∙ (λ i. record_write_refusal (length (e.0 i)) (e.1 i))) refl
 
 pub writes_block_1025 : WritesRecord (replicate 16 0) (Console (record { 0 = 7 }) 1025) (λ κs a x s. x ≡ 0)
-unfolding record_write_refusal first if◌then◌else◌
+unfolding record_write_refusal first when◌then◌else◌
 writes_block_1025 κs a x s e w p = unequal (sym w ∙ p.0 ∙ (λ i. record_write_refusal (length (e.0 i)) (e.1 i))) refl
 
 pub writes_version_1_to_16_bytes : WritesRecord (replicate 16 0) unused (λ κs a x s. x ≡ 0)
-unfolding record_write_refusal first if◌then◌else◌
+unfolding record_write_refusal first when◌then◌else◌
 writes_version_1_to_16_bytes κs a x s e w p = unequal (sym w ∙ p.0 ∙ (λ i. record_write_refusal (length (e.0 i)) (e.1 i))) refl
 
 -- ## Heads
@@ -217,18 +217,18 @@ pub swaps_the_directions : RulesOut direction-of-kinds.ps direction-of-kinds.r d
 swaps_the_directions κs a x s e w p = let q : ToConsole ≡ ToController = sym w ∙ p ∙ ap direction_of e in clash cc
 
 pub need_i_with_a_second_number : RulesOut head-of-kinds.ps head-of-kinds.r head_of.Post (λ κs a. (a.0 ≡ 1) × (a.1.0 ≡ 1) × (a.1.1.0 ≡ 1)) (λ κs a x s. x ≡ Is (NeedI (record { 0 = 1 })))
-unfolding head_of if◌then◌else◌
+unfolding head_of when◌then◌else◌
 need_i_with_a_second_number κs a x s e w p = is_other 15 (NeedI (record { 0 = 1 })) (sym (p ∙ (λ i. head_of (e.0 i) (e.1 i) (e.2 i))) ∙ w)
 
 abbrev Heads : ℕ → ReadHead → Type 0
 Heads i h = RulesOut head-of-kinds.ps head-of-kinds.r head_of.Post (λ κs a. (a.0 ≡ 2) × (a.1.0 ≡ 1) × (a.1.1.0 ≡ i)) (λ κs a x s. x ≡ h)
 
 pub refuses_an_offer_of_1 : Heads 1 (Refused 15)
-unfolding head_of if◌then◌else◌
+unfolding head_of when◌then◌else◌
 refuses_an_offer_of_1 κs a x s e w p = is_other 15 (Offer (record { 0 = 1 }) (record { 0 = 1 })) (sym w ∙ p ∙ (λ i. head_of (e.0 i) (e.1 i) (e.2 i)))
 
 pub takes_an_offer_of_0 : Heads 0 (Is (Offer (record { 0 = 1 }) (record { 0 = 0 })))
-unfolding head_of if◌then◌else◌
+unfolding head_of when◌then◌else◌
 takes_an_offer_of_0 κs a x s e w p = is_other 15 (Offer (record { 0 = 1 }) (record { 0 = 0 })) (sym (p ∙ (λ i. head_of (e.0 i) (e.1 i) (e.2 i))) ∙ w)
 
 pub first_number_twice : RulesOut fields-of-kinds.ps fields-of-kinds.r fields-of.Post (λ κs a. a.0 ≡ NeedI (record { 0 = 1 })) (λ κs a x s. x.second ≡ x.first)
@@ -273,18 +273,18 @@ abbrev Makes : ℕ → ℕ → ℕ → ReadRecord → Type 0
 Makes end number block y = RulesOut record-of-kinds.ps record-of-kinds.r record_of.Post (λ κs a. (a.0 ≡ end) × (a.1.0 ≡ number) × (a.1.1.0 ≡ block)) (λ κs a x s. x ≡ y)
 
 pub refuses_number_0 : Makes 1 0 0 (Unread 15)
-unfolding record_of if◌then◌else◌
+unfolding record_of when◌then◌else◌
 refuses_number_0 κs a x s e w p = is-unread 15 unused (sym w ∙ p ∙ (λ i. record_of (e.0 i) (e.1 i) (e.2 i)))
 
 pub says_14_of_end_3 : Makes 3 0 0 (Unread 14)
-unfolding record_of if◌then◌else◌
+unfolding record_of when◌then◌else◌
 says_14_of_end_3 κs a x s e w p =
     let q : Unread 14 ≡ Unread 15 = sym w ∙ p ∙ (λ i. record_of (e.0 i) (e.1 i) (e.2 i)) in
     let z : ◌≡◌ {A = ℕ} 14 15 = cc in
     unequal z refl
 
 pub version_2_with_block_0 : Makes 1 7 0 (Recorded (Console (record { 0 = 7 }) 0))
-unfolding record_of if◌then◌else◌
+unfolding record_of when◌then◌else◌
 version_2_with_block_0 κs a x s e w p =
     let q : Recorded (Console (record { 0 = 7 }) 0) ≡ Recorded (ConsoleOld (record { 0 = 7 })) = sym w ∙ p ∙ (λ i. record_of (e.0 i) (e.1 i) (e.2 i)) in
     clash cc

@@ -1,7 +1,7 @@
 -- What packets and number records have in common: bytes 0 to 7, and a reading by the table that the writing goes by. Assumes nothing.
 use Rattle.std.specs.Prelude.{ℕ, suc, Bool, true, not, ◌&&◌, List, [], ◌∷◌, ◌++◌, length, get_or, eqb}
 pub use Rattle.ground.specs.Bytes.{field}
-use Rattle.ground.specs.Choice.{if◌then◌else◌}
+use Rattle.ground.specs.Choice.{when◌then◌else◌}
 use Rattle.wire.specs.Number.{bytes_of}
 
 -- whether the bytes from an offset on are these
@@ -32,4 +32,4 @@ read_refusals n letter version s good = (12, not (eqb (length s) n)) ∷ frame_r
 -- what is made of the first of some candidates that passes a test, and what stands for none
 abbrev pub found : {A B : Type 0} → (A → Bool) → (A → B) → B → List A → B
 found test is none [] = none
-found test is none (a ∷ rest) = if test a then is a else found test is none rest
+found test is none (a ∷ rest) = when test a then is a else found test is none rest

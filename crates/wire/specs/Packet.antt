@@ -1,7 +1,7 @@
 -- Packets, 32 bytes: the table of kinds, and what reading and writing are by it. Assumes nothing.
 use Rattle.std.specs.Prelude.{ℕ, Bool, false, not, ◌&&◌, List, [], ◌∷◌, ◌++◌, length, get_or, drop, replicate, eqb}
 use Rattle.ground.specs.Cell.{is_message}
-use Rattle.ground.specs.Choice.{if◌then◌else◌}
+use Rattle.ground.specs.Choice.{when◌then◌else◌}
 use Rattle.ground.specs.Every.{every, filled}
 use Rattle.ground.specs.First.{first}
 use Rattle.wire.specs.Frame.{field, frame, read_refusals, found}
@@ -95,11 +95,11 @@ abbrev pub accepted : Packet → ReadPacket
 accepted p = record { head = Is p.head; message = p.message }
 
 unfoldable pub packet_read : List ℕ → ReadPacket
-packet_read s = if eqb (read_refusal s) 0 then record { head = head_at s; message = drop 16 s } else refused (read_refusal s)
+packet_read s = when eqb (read_refusal s) 0 then record { head = head_at s; message = drop 16 s } else refused (read_refusal s)
 
 -- the first refusal of a write to n bytes, or 0, and the bytes after it
 unfoldable pub write_refusal : ℕ → Packet → ℕ
 write_refusal n p = first ((12, not (eqb n 32)) ∷ (15, not (fits p)) ∷ [])
 
 unfoldable pub packet_written : List ℕ → Packet → List ℕ
-packet_written out p = if eqb (write_refusal (length out) p) 0 then packet_bytes p else out
+packet_written out p = when eqb (write_refusal (length out) p) 0 then packet_bytes p else out

@@ -2,7 +2,7 @@
 use Rattle.std.specs.Prelude.{ℕ, Bool, true, false, not, ◌&&◌, ◌||◌, List, [], ◌∷◌, ◌++◌, length, get_or, eqb}
 pub use Rattle.ground.specs.Block.{is_block}
 use Rattle.ground.specs.Block.{fresh_block}
-use Rattle.ground.specs.Choice.{if◌then◌else◌}
+use Rattle.ground.specs.Choice.{when◌then◌else◌}
 use Rattle.ground.specs.First.{first}
 use Rattle.wire.specs.Frame.{field, bytes_are, frame, read_refusals, found}
 use Rattle.wire.specs.Number.{bytes_of, value}
@@ -53,14 +53,14 @@ abbrev pub new_bytes : ℕ → ℕ → ℕ → List ℕ
 new_bytes end reserved block = frame 0x4E 2 end ++ (bytes_of 4 reserved ++ (bytes_of 2 block ++ bytes_of 2 0))
 
 unfoldable pub record_bytes : NumberRecord → List ℕ
-record_bytes r = if is_old r then old_bytes (end_of r) (number_of r) else new_bytes (end_of r) (number_of r) (block_of r)
+record_bytes r = when is_old r then old_bytes (end_of r) (number_of r) else new_bytes (end_of r) (number_of r) (block_of r)
 
 -- ## Reading
 
 -- both ends' records with a number and a block: 0 makes version 1, any other block version 2
 abbrev pub records : ℕ → ℕ → List NumberRecord
 records n b =
-    if eqb b 0 then ConsoleOld (record { 0 = n }) ∷ ControllerOld (record { 0 = n }) ∷ []
+    when eqb b 0 then ConsoleOld (record { 0 = n }) ∷ ControllerOld (record { 0 = n }) ∷ []
     else Console (record { 0 = n }) b ∷ Controller (record { 0 = n }) b ∷ []
 
 -- the one of this end
@@ -69,7 +69,7 @@ record_of e n b = found (λ r. eqb e (end_of r)) Is (Refused 15) (records n b)
 
 -- bytes 12-13 of version 2
 unfoldable pub block_at : List ℕ → ℕ
-block_at s = if eqb (length s) 16 then value (field s 12 2) else 0
+block_at s = when eqb (length s) 16 then value (field s 12 2) else 0
 
 unfoldable pub record_at : List ℕ → ReadRecord
 record_at s = record_of (get_or s 5 0) (value (field s 8 4)) (block_at s)
@@ -82,23 +82,23 @@ is_read (Is r) = true
 -- version not of that length 14, a block out of range or bytes 14-15 not zero 15
 unfoldable pub record_refusal : List ℕ → ℕ
 record_refusal s =
-    if eqb (length s) 16 then first (read_refusals 16 0x4E 2 s (is_read (record_at s) && is_block (block_at s) && bytes_are s 14 (bytes_of 2 0)))
+    when eqb (length s) 16 then first (read_refusals 16 0x4E 2 s (is_read (record_at s) && is_block (block_at s) && bytes_are s 14 (bytes_of 2 0)))
     else first (read_refusals 12 0x4E 1 s (is_read (record_at s)))
 
 unfoldable pub record_read : List ℕ → ReadRecord
-record_read s = if eqb (record_refusal s) 0 then record_at s else Refused (record_refusal s)
+record_read s = when eqb (record_refusal s) 0 then record_at s else Refused (record_refusal s)
 
 -- ## Writing
 
 abbrev pub length_of : NumberRecord → ℕ
-length_of r = if is_old r then 12 else 16
+length_of r = when is_old r then 12 else 16
 
 -- the first refusal of a write to n bytes, or 0, and the bytes after it
 unfoldable pub record_write_refusal : ℕ → NumberRecord → ℕ
 record_write_refusal n r = first ((12, not (eqb n (length_of r))) ∷ (15, not (is_good r)) ∷ [])
 
 unfoldable pub record_written : List ℕ → NumberRecord → List ℕ
-record_written out r = if eqb (record_write_refusal (length out) r) 0 then record_bytes r else out
+record_written out r = when eqb (record_write_refusal (length out) r) 0 then record_bytes r else out
 
 -- ## Carrying from version to version
 

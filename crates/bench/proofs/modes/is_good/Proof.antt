@@ -1,11 +1,11 @@
 -- `bench::modes::is_good` meets its contract.
 use borrow.Author.Rules.{rules}
-use Rattle.ground.specs.Choice.{if◌then◌else◌}
+use Rattle.ground.specs.Choice.{when◌then◌else◌}
 use Rattle.bench.proofs.modes.is_good.Statement.{statement}
 use Rattle.bench.proofs.modes.is_good.Tie as tie
 
 pub is_good_spec : {M : Type 1} → statement M
-unfolding if◌then◌else◌
+unfolding when◌then◌else◌
 is_good_spec =
     tie.close
     (tie.spec

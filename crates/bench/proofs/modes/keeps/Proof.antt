@@ -1,10 +1,10 @@
 -- `bench::modes::keeps` meets its contract.
 use Rattle.bench.proofs.modes.keeps.Statement.{statement}
 use Rattle.bench.proofs.modes.keeps.Tie as tie
-use Rattle.ground.specs.Choice.{if◌then◌else◌}
+use Rattle.ground.specs.Choice.{when◌then◌else◌}
 
 pub keeps_spec : {M : Type 1} → statement M
-unfolding if◌then◌else◌
+unfolding when◌then◌else◌
 keeps_spec =
     tie.close
     (tie.spec

@@ -1,5 +1,4 @@
 -- `ends_console::decides::decides` meets its contract.
-use borrow.Author.Rules.{rules}
 use Rattle.ends_console.proofs.Decisions.{decides_put, decides_need_i, decides_data, decides_take, decides_down, decides_back, decides_tell}
 use Rattle.ends_console.proofs.decides.decides.Goals as goal
 

@@ -1,5 +1,4 @@
 -- `ends_console::decides::sends_one` meets its contract.
-use borrow.Author.Rules.{rules}
 use Rattle.ends_console.proofs.Decisions.{send_refuses, send_turns}
 use Rattle.ends_console.proofs.decides.sends_one.Goals as goal
 

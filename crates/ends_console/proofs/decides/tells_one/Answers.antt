@@ -1,5 +1,4 @@
 -- `ends_console::decides::tells_one` meets its contract.
-use borrow.Author.Rules.{rules}
 use Rattle.ends_console.proofs.Decisions.{tell_refuses, tell_turns}
 use Rattle.ends_console.proofs.decides.tells_one.Goals as goal
 

@@ -1,5 +1,4 @@
 -- `ends_controller::decides::decides` meets its contract.
-use borrow.Author.Rules.{rules}
 use Rattle.ends_controller.proofs.Decisions.{decides_offer, decides_ok, decides_take, decides_down, decides_back}
 use Rattle.ends_controller.proofs.decides.decides.Goals as goal
 

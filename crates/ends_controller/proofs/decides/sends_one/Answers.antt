@@ -1,5 +1,4 @@
 -- `ends_controller::decides::sends_one` meets its contract.
-use borrow.Author.Rules.{rules}
 use Rattle.ends_controller.proofs.Decisions.{send_refuses, send_turns}
 use Rattle.ends_controller.proofs.decides.sends_one.Goals as goal
 

@@ -29,7 +29,6 @@ use Rattle.numbers.specs.declared.Move.TheVariants.{Stay}
 use Rattle.ends.specs.AsRules.{Beside, tested, report_back, number_in, delivered}
 use Rattle.ends.specs.Packets.{to_controller_packet, to_controller_sent}
 use Rattle.ends.specs.declared.ForConsole.{ForConsole}
-use Rattle.ends.specs.declared.Report.{Report}
 use Rattle.ends.specs.declared.Report.TheVariants.{Refused}
 use Rattle.ends.proofs.Reports.{report_told_lem}
 use Rattle.ends_console.specs.AsRules.{mode, mode_back, on_offer, asked_to, decided}

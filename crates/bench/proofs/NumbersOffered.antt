@@ -32,10 +32,8 @@ use Rattle.ends.specs.AsRules.{for_controller}
 use Rattle.ends.specs.declared.ForController.TheVariants as for-controller
 use Rattle.ends.specs.declared.Report.TheVariants.{Refused}
 use Rattle.ends_console.specs.Ack.{use_means, ack_use, acked}
-use Rattle.ends_console.specs.AsRules as console
 use Rattle.ends_console.specs.declared.ack.AckUse.{AckUse}
 use Rattle.ends_console.specs.declared.ack.Shown.{Shown}
-use Rattle.ends_controller.specs.AsRules as controller
 use Rattle.ends_controller.proofs.MessageBeside.{same_unknown}
 use Rattle.bench.specs.Arriving.{nothing_came, came_out, came_for}
 use Rattle.bench.specs.ByModes.{RulesOutcome, Known, Offers, Arrived, Few, OnConsole, OnController, OnLosing, told_as, shown_of, modes_moved, modes_means, modes_step, action_of}

@@ -36,7 +36,6 @@ use Rattle.bench.specs.Running.{uses_of, action_with, action_as, list_action, pl
 use Rattle.bench.specs.ByModes.{action_of}
 use Rattle.bench.specs.WithNumbers.{ReadOutcome, read_of, step_with}
 use Rattle.bench.specs.Loaded.{Well, stepped_as, loaded_means, loaded_reads, loaded_step, bench_of, outcome_of, FoundLined, record_outcome, line_step, record_step, Played}
-use Rattle.bench.specs.declared.Bench.{Bench}
 use Rattle.bench.specs.declared.loaded.Loaded.{Loaded}
 use Rattle.bench.specs.declared.loaded.Stepped.{Stepped}
 use Rattle.bench.proofs.BenchStands.{stands_ok, stands_for}

@@ -19,13 +19,11 @@ use Rattle.listing.specs.declared.Fields.{Fields}
 use Rattle.numbers.specs.Numbers.{numbers_means, numbers_fresh, numbers_moved}
 use Rattle.numbers.specs.declared.Numbers.{Numbers}
 use Rattle.ends.specs.declared.ForController.{ForController}
-use Rattle.ends_console.specs.AsRules as console
 use Rattle.ends_console.specs.Fields.{console_with}
 use Rattle.ends_console.specs.declared.Mode.TheVariants as console-mode
 use Rattle.ends_console.specs.declared.End as console-end
 use Rattle.ends_console.specs.declared.ack.Shown.{Shown}
 use Rattle.ends_console.specs.declared.fields.Console.{Console}
-use Rattle.ends_controller.specs.AsRules as controller
 use Rattle.ends_controller.specs.Fields.{controller_with}
 use Rattle.ends_controller.specs.declared.Mode.TheVariants as controller-mode
 use Rattle.ends_controller.specs.declared.End as controller-end

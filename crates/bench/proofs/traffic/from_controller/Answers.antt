@@ -1,0 +1,13 @@
+-- `bench::traffic::from_controller` meets its contract.
+use Rattle.ends.specs.Packets.{to_console_sent}
+use Rattle.bench.proofs.traffic.from_controller.Goals as goal
+
+pub returns-in-Nothing : goal.returns-in-Nothing
+unfolding to_console_sent
+returns-in-Nothing c =
+    rw c.in-Nothing.is c.nothing.ensures
+
+pub returns-in-Packet : goal.returns-in-Packet
+unfolding to_console_sent
+returns-in-Packet c =
+    rw (c.in-Packet.is, c.to_console-packet.ensures)

@@ -1,15 +1,15 @@
 -- What is read from a state's bytes: laws that the code's proofs cite.
 use Prim.Native.Nat.{ℕ, ◌-◌, ◌≤◌, ◌<◌}
 use mathlib.Core.Path.{◌≡◌, ◌∙◌}
-use mathlib.Core.List.{List, [], ◌∷◌, ◌++◌}
+use mathlib.Core.List.{List, [], ◌∷◌}
 use native.Mathlib.Omega.{arith}
 use borrow.Author.Tests.{ne_eqb, le-leb, lt-leb}
-use lib.ListN.{length, get_or, take, drop, length-drop}
+use lib.ListN.{length, get_or, take, drop}
 use lib.Dec.{eqb}
 use Rattle.ground.specs.Choice.{when◌then◌else◌}
 use Rattle.wire.specs.Frame.{field}
 use Rattle.wire.specs.Number.{value}
-use Rattle.ground.proofs.Copies.{copied, rest_lent}
+use Rattle.ground.proofs.Copies.{rest_lent}
 use Rattle.ground.proofs.Elements.{field_elements}
 use Rattle.numbers.specs.declared.Numbers.{Numbers}
 use Rattle.ends_console.specs.declared.fields.Console.{Console}
@@ -22,8 +22,8 @@ pub numbers_are : (s : List ℕ) {u r b : ℕ} → 10 ≤ length s → u ≡ val
 numbers_are s l e f g = rw (e, f, g, field_elements 2 s 8 (omega (arith, l)))
 
 -- the message, copied from the part that is lent
-pub message_copied : (s d : List ℕ) {x : List ℕ} → length s ≡ 37 → length d ≡ 16 → x ≡ take (length (take (length s - 21) (drop 21 s))) (take (length s - 21) (drop 21 s)) ++ drop (length (take (length s - 21) (drop 21 s))) d → x ≡ drop 21 s
-message_copied s d l m e = copied (drop 21 s) d (rw (← rest_lent s 21) e) (m ∙ rw (length-drop 21 s, l))
+pub message_copied : (s : List ℕ) {x : List ℕ} → x ≡ take (length s - 21) (drop 21 s) → x ≡ drop 21 s
+message_copied s e = e ∙ rest_lent s 21
 
 pub console_fields_lem : (s : List ℕ) {n : Numbers} {j l : ℕ} {m : List ℕ} → n ≡ numbers_at s → j ≡ value (field s 10 4) → l ≡ value (field s 14 4) → m ≡ drop 21 s → ◌≡◌ {A = Console} (record { numbers = n; held = eqb (get_or s 18 0) 1; message = m; j = record { 0 = j }; last = record { 0 = l }; up = eqb (get_or s 19 0) 1; ack = eqb (get_or s 20 0) 1 }) (console.fields_at s)
 unfolding console.fields_at

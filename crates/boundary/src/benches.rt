@@ -90,8 +90,7 @@ fn keep(state: &mut [u8], report: Report, after: Bench)
 }
 
 // Both ends up and idle with any two last used, both tables cleared.
-#[unsafe(no_mangle)]
-pub extern "C" fn nooseless_bench_fresh(
+pub fn nooseless_bench_fresh(
     state: &mut [u8],
     out: &mut [u8],
     back: &mut [u8],
@@ -111,8 +110,7 @@ pub extern "C" fn nooseless_bench_fresh(
 }
 
 // One of the fourteen actions, with any place and any copies.
-#[unsafe(no_mangle)]
-pub extern "C" fn nooseless_bench_step(
+pub fn nooseless_bench_step(
     state: &mut [u8],
     out: &mut [u8],
     back: &mut [u8],
@@ -155,8 +153,7 @@ fn show_to(end: u8, place: usize, out: &[u8], sent: usize, back: &[u8], returned
 }
 
 // Where the packet at a place lies in the table of the channel that leads to an end.
-#[unsafe(no_mangle)]
-pub extern "C" fn nooseless_bench_show(
+pub fn nooseless_bench_show(
     state: &[u8],
     out: &[u8],
     back: &[u8],

@@ -111,16 +111,14 @@ fn write_console(state: &mut [u8], c: Console) -> u8
 }
 
 // Up and idle, with any last used.
-#[unsafe(no_mangle)]
-pub extern "C" fn nooseless_console_fresh(state: &mut [u8], last_used: u32) -> u8
+pub fn nooseless_console_fresh(state: &mut [u8], last_used: u32) -> u8
     ensures { (result ≡ length_refusal 37 state.old) × (state.new ≡ written 37 state.old (console_bytes (fresh_console (record { 0 = last_used })))) }
 {
     write_console(state, fields::fresh_console(J(last_used)))
 }
 
 // After power loss: down, with the numbers of the console's number record, of either version, and no answer.
-#[unsafe(no_mangle)]
-pub extern "C" fn nooseless_console_downed(state: &mut [u8], record: &[u8]) -> u8
+pub fn nooseless_console_downed(state: &mut [u8], record: &[u8]) -> u8
     ensures { (result ≡ start_refusal 37 state.old (start_at «record».now)) × (state.new ≡ started 37 state.old (start_at «record».now) (downed_bytes «record».now)) }
 {
     let start = start_in(1, record);
@@ -138,8 +136,7 @@ pub extern "C" fn nooseless_console_downed(state: &mut [u8], record: &[u8]) -> u
 }
 
 // The number record to keep where a step told that it changed.
-#[unsafe(no_mangle)]
-pub extern "C" fn nooseless_console_record(state: &[u8], out: &mut [u8]) -> u8
+pub fn nooseless_console_record(state: &[u8], out: &mut [u8]) -> u8
     ensures { (result ≡ state_record_refusal (console_ok (console_at state.now)) (console_record (console_at state.now)) out.old) × (out.new ≡ state_record_put (console_ok (console_at state.now)) (console_record (console_at state.now)) out.old) }
 {
     let c = console_at(state);
@@ -163,8 +160,7 @@ fn keep(state: &mut [u8], report: Report, after: Console)
 }
 
 // P Q D S C V A of a console run alone.
-#[unsafe(no_mangle)]
-pub extern "C" fn nooseless_console_step(
+pub fn nooseless_console_step(
     state: &mut [u8],
     letter: u8,
     message: &[u8; 16],

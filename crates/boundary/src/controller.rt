@@ -92,16 +92,14 @@ fn write_controller(state: &mut [u8], c: Controller) -> u8
 }
 
 // Up and idle, with any last used.
-#[unsafe(no_mangle)]
-pub extern "C" fn nooseless_controller_fresh(state: &mut [u8], last_used: u32) -> u8
+pub fn nooseless_controller_fresh(state: &mut [u8], last_used: u32) -> u8
     ensures { (result ≡ length_refusal 23 state.old) × (state.new ≡ written 23 state.old (controller_bytes (fresh_controller (record { 0 = last_used })))) }
 {
     write_controller(state, fields::fresh_controller(I(last_used)))
 }
 
 // After power loss: down, with the numbers of the controller's number record, of either version.
-#[unsafe(no_mangle)]
-pub extern "C" fn nooseless_controller_downed(state: &mut [u8], record: &[u8]) -> u8
+pub fn nooseless_controller_downed(state: &mut [u8], record: &[u8]) -> u8
     ensures { (result ≡ start_refusal 23 state.old (start_at «record».now)) × (state.new ≡ started 23 state.old (start_at «record».now) (downed_bytes «record».now)) }
 {
     let start = start_in(2, record);
@@ -119,8 +117,7 @@ pub extern "C" fn nooseless_controller_downed(state: &mut [u8], record: &[u8]) -
 }
 
 // The number record to keep where a step told that it changed.
-#[unsafe(no_mangle)]
-pub extern "C" fn nooseless_controller_record(state: &[u8], out: &mut [u8]) -> u8
+pub fn nooseless_controller_record(state: &[u8], out: &mut [u8]) -> u8
     ensures { (result ≡ state_record_refusal (controller_ok (controller_at state.now)) (controller_record (controller_at state.now)) out.old) × (out.new ≡ state_record_put (controller_ok (controller_at state.now)) (controller_record (controller_at state.now)) out.old) }
 {
     let c = controller_at(state);
@@ -156,8 +153,7 @@ pub(crate) fn hand_over(report: Report, message: [u8; 16], out: &mut [u8; 16])
 }
 
 // O K R X Y of a controller run alone.
-#[unsafe(no_mangle)]
-pub extern "C" fn nooseless_controller_step(
+pub fn nooseless_controller_step(
     state: &mut [u8],
     letter: u8,
     packet: &[u8],

@@ -6,8 +6,7 @@ ghost use Rattle.boundary.specs.Packets.{packet_out, head_refusal, head_put};
 use wire::{Packet, ReadHead};
 
 // Reads a packet of 32 bytes. A refusal leaves every place.
-#[unsafe(no_mangle)]
-pub extern "C" fn nooseless_read_packet(
+pub fn nooseless_read_packet(
     packet: &[u8],
     kind: &mut u8,
     first: &mut u32,
@@ -33,8 +32,7 @@ pub extern "C" fn nooseless_read_packet(
 }
 
 // Writes a packet to 32 bytes.
-#[unsafe(no_mangle)]
-pub extern "C" fn nooseless_write_packet(
+pub fn nooseless_write_packet(
     out: &mut [u8],
     kind: u8,
     first: u32,

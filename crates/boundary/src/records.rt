@@ -6,13 +6,7 @@ ghost use Rattle.boundary.specs.Records.{record_out, length_with, record_put_ref
 use wire::{NumberRecord, ReadRecord};
 
 // Reads a number record of 12 or 16 bytes. A refusal leaves all three places.
-#[unsafe(no_mangle)]
-pub extern "C" fn nooseless_read_record(
-    record: &[u8],
-    end: &mut u8,
-    number: &mut u32,
-    block: &mut u16,
-) -> u8
+pub fn nooseless_read_record(record: &[u8], end: &mut u8, number: &mut u32, block: &mut u16) -> u8
     ensures { record { refusal = result; end = end.new; number = number.new; block = block.new } ≡ record_out (record_read «record».now) end.old number.old block.old }
 {
     let read = wire::read_record(record);
@@ -34,8 +28,7 @@ fn length_with(block: u16) -> usize
 }
 
 // Writes a number record: version 1 to 12 bytes where the block is 0, else version 2 to 16.
-#[unsafe(no_mangle)]
-pub extern "C" fn nooseless_write_record(out: &mut [u8], end: u8, number: u32, block: u16) -> u8
+pub fn nooseless_write_record(out: &mut [u8], end: u8, number: u32, block: u16) -> u8
     ensures { (result ≡ record_put_refusal (length out.old) block (record_of end number block)) × (out.new ≡ record_put out.old (record_of end number block)) }
 {
     let made = wire::record_of(end, number, block);
@@ -63,8 +56,7 @@ fn in_version(length: usize, record: NumberRecord) -> NumberRecord
 }
 
 // Carries a number record to the version that the length of `to` names.
-#[unsafe(no_mangle)]
-pub extern "C" fn nooseless_carry_record(from: &[u8], to: &mut [u8]) -> u8
+pub fn nooseless_carry_record(from: &[u8], to: &mut [u8]) -> u8
     ensures { (result ≡ carry_refusal (length to.old) (record_read from.now)) × (to.new ≡ carried to.old (record_read from.now)) }
 {
     let read = wire::read_record(from);

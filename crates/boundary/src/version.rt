@@ -3,8 +3,7 @@ ghost use Rattle.std.specs.Prelude.{◌≡◌};
 ghost use Rattle.boundary.specs.Version.{version};
 
 // The header's NOOSELESS_VERSION.
-#[unsafe(no_mangle)]
-pub extern "C" fn nooseless_version() -> u32
+pub fn nooseless_version() -> u32
     ensures { result ≡ version }
 {
     3

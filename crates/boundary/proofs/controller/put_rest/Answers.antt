@@ -1,0 +1,8 @@
+-- `boundary::controller::put_rest` meets its contract: three parts, one after another.
+use borrow.Author.Rules.{rules}
+use Rattle.boundary.proofs.Writing.{three_parts, filled, filled_one}
+use Rattle.boundary.proofs.controller.put_rest.Goals as goal
+
+pub returns : goal.returns
+returns c =
+    search (three_parts, filled, filled_one, rules)

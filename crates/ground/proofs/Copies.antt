@@ -1,14 +1,10 @@
--- Bytes that are copied, and the part that is lent for it.
+-- The part of a list that is lent from an offset on.
 use Prim.Native.Nat.{ℕ, ◌-◌}
-use mathlib.Core.Path.{◌≡◌, ◌∙◌}
-use mathlib.Core.List.{List, ◌++◌, append-nil}
+use mathlib.Core.Path.{◌≡◌}
+use mathlib.Core.List.{List}
 use native.Mathlib.Omega.{arith}
-use lib.ListN.{length, take, drop, drop_of_length-le, length-drop}
-use lib.Seq.{take-length, take_all}
-
--- a copy over as many bytes is what was copied
-pub copied : {x : List ℕ} (a b : List ℕ) → x ≡ take (length a) a ++ drop (length a) b → length b ≡ length a → x ≡ a
-copied a b e h = e ∙ rw (take-length a, drop_of_length-le b {i = length a} (omega (arith, h)), append-nil)
+use lib.ListN.{length, take, drop, length-drop}
+use lib.Seq.{take_all}
 
 -- the part from an offset on, as it is lent
 pub rest_lent : (s : List ℕ) (at : ℕ) → take (length s - at) (drop at s) ≡ drop at s

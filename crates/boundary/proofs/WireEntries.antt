@@ -50,7 +50,7 @@ module _ (out m : List ℕ) (k a b : ℕ) {h : ReadHead} (e : h ≡ head_of k a 
 
 pub ruleset head_refusals = (head_15, head_12, head_n)
 
-pub ruleset head_Puts = (head_kept, head_put_lem)
+pub ruleset head_puts = (head_kept, head_put_lem)
 
 -- a number record that is read
 module _ (s : List ℕ) (x y z : ℕ) {r : ReadRecord} (e : r ≡ record_read s) where

@@ -117,7 +117,6 @@ fn print_part(rt: &impl Print, refusal: u8, part: &[u8]) -> io::Result<()> {
     }
 }
 
-// Proved by hand, since a struct holds the part.
 fn print_packet<'a>(
     rt: &impl Print,
     way: Way,

@@ -23,7 +23,7 @@ use Rattle.channels.specs.Table.{laid, packet_at, goes, heads_pass, table_ok, wi
 use Rattle.channels.proofs.change.add.Kinds as add-kinds
 use Rattle.channels.proofs.change.add.Reads as add
 use Rattle.channels.proofs.check.head_at.Kinds as head-at-kinds
-use Rattle.channels.proofs.check.head_at.Reads as head_at
+use Rattle.channels.proofs.check.head_at.Reads as head-at
 use Rattle.channels.proofs.check.packet_at.Kinds as packet-at-kinds
 use Rattle.channels.proofs.check.packet_at.Reads as packet-at
 use Rattle.channels.proofs.check.table_ok.Kinds as table-ok-kinds
@@ -74,13 +74,13 @@ packet_at_end t l = rw (drop_of_length-le t {i = 2048} (omega (arith, l)))
 pub a_packet_beyond_the_table : RulesOut packet-at-kinds.ps packet-at-kinds.r packet-at.Post (λ κs a. (length a.0.now ≡ 2048) × (a.1.0 ≡ 64)) (λ κs a x s. (q : Packet) × (x ≡ accepted q))
 a_packet_beyond_the_table κs a x s e w p = is_other 12 w.0.head (sym (ap (λ (r : ReadPacket). r.head) (sym w.1 ∙ p ∙ ap (packet_at a.0.now) e.1 ∙ packet_at_end a.0.now e.0)))
 
-pub head_of_the_place_before : RulesOut head-at-kinds.ps head-at-kinds.r head_at.Post (λ κs a. (a.0.now ≡ two) × (a.1.0 ≡ 1)) (λ κs a x s. x ≡ (packet_at a.0.now (a.1.0 - 1)).head)
+pub head_of_the_place_before : RulesOut head-at-kinds.ps head-at-kinds.r head-at.Post (λ κs a. (a.0.now ≡ two) × (a.1.0 ≡ 1)) (λ κs a x s. x ≡ (packet_at a.0.now (a.1.0 - 1)).head)
 unfolding packet_at packet_read read_refusal head_at head_of packet_bytes bytes_of value first when◌then◌else◌ is_blank filled
 head_of_the_place_before κs a x s e w p =
     let q = sym (λ i. (packet_at (e.0 i) (e.1 i - 1)).head) ∙ sym w ∙ p ∙ (λ i. (packet_at (e.0 i) (e.1 i)).head) in
     false≢true (ap (goes ToConsole) q)
 
-pub a_head_beyond_the_table : RulesOut head-at-kinds.ps head-at-kinds.r head_at.Post (λ κs a. (length a.0.now ≡ 2048) × (a.1.0 ≡ 64)) (λ κs a x s. (h : Head) × (x ≡ Is h))
+pub a_head_beyond_the_table : RulesOut head-at-kinds.ps head-at-kinds.r head-at.Post (λ κs a. (length a.0.now ≡ 2048) × (a.1.0 ≡ 64)) (λ κs a x s. (h : Head) × (x ≡ Is h))
 a_head_beyond_the_table κs a x s e w p =
     is_other 12 w.0 (sym (sym w.1 ∙ p ∙ ap (λ (r : ReadPacket). r.head) (ap (packet_at a.0.now) e.1 ∙ packet_at_end a.0.now e.0)))
 

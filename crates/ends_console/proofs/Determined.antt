@@ -20,9 +20,9 @@ use Rattle.ends_console.proofs.acts.puts.Reads as puts
 use Rattle.ends_console.proofs.acts.takes_what_came.Kinds as takes-what-came-kinds
 use Rattle.ends_console.proofs.acts.takes_what_came.Reads as takes-what-came
 use Rattle.ends_console.proofs.acts.goes_down.Kinds as goes-down-kinds
-use Rattle.ends_console.proofs.acts.goes_down.Reads as goes_down
+use Rattle.ends_console.proofs.acts.goes_down.Reads as goes-down
 use Rattle.ends_console.proofs.acts.comes_back.Kinds as comes-back-kinds
-use Rattle.ends_console.proofs.acts.comes_back.Reads as comes_back
+use Rattle.ends_console.proofs.acts.comes_back.Reads as comes-back
 use Rattle.ends_console.proofs.acts.put_refusal.Kinds as put-refusal-kinds
 use Rattle.ends_console.proofs.acts.put_refusal.Reads as put-refusal
 use Rattle.ends_console.proofs.fields.read_console.Kinds as read-console-kinds
@@ -61,10 +61,10 @@ puts_determined κs a x y s t p q = p ∙ sym q
 pub takes_what_came_determined : Determined takes-what-came-kinds.ps takes-what-came-kinds.r takes-what-came.Post
 takes_what_came_determined κs a x y s t p q = p ∙ sym q
 
-pub goes_down_determined : Determined goes-down-kinds.ps goes-down-kinds.r goes_down.Post
+pub goes_down_determined : Determined goes-down-kinds.ps goes-down-kinds.r goes-down.Post
 goes_down_determined κs a x y s t p q = p ∙ sym q
 
-pub comes_back_determined : Determined comes-back-kinds.ps comes-back-kinds.r comes_back.Post
+pub comes_back_determined : Determined comes-back-kinds.ps comes-back-kinds.r comes-back.Post
 comes_back_determined κs a x y s t p q = p ∙ sym q
 
 pub put_refusal_determined : Determined put-refusal-kinds.ps put-refusal-kinds.r put-refusal.Post

@@ -27,9 +27,9 @@ use Rattle.ends_console.proofs.turns.data_sent.Reads as data-sent
 use Rattle.ends_console.proofs.acts.takes_what_came.Kinds as takes-what-came-kinds
 use Rattle.ends_console.proofs.acts.takes_what_came.Reads as takes-what-came
 use Rattle.ends_console.proofs.acts.goes_down.Kinds as goes-down-kinds
-use Rattle.ends_console.proofs.acts.goes_down.Reads as goes_down
+use Rattle.ends_console.proofs.acts.goes_down.Reads as goes-down
 use Rattle.ends_console.proofs.acts.comes_back.Kinds as comes-back-kinds
-use Rattle.ends_console.proofs.acts.comes_back.Reads as comes_back
+use Rattle.ends_console.proofs.acts.comes_back.Reads as comes-back
 use Rattle.ends_console.proofs.acts.put_refusal.Kinds as put-refusal-kinds
 use Rattle.ends_console.proofs.acts.put_refusal.Reads as put-refusal
 use Rattle.ends_console.proofs.refusals.send_refusal.Kinds as send-refusal-kinds
@@ -77,19 +77,19 @@ pub ok_for_lost : RulesOut takes-what-came-kinds.ps takes-what-came-kinds.r take
 unfolding rules.ends numbers_rules
 ok_for_lost κs a x s e w p = let q : report.Ok ≡ report.Lost = sym w ∙ ap (λ (d : console-acted.Acted). d.report) (p ∙ (λ i. console.acted (rules.console_acts numbering (console.end (e.0 i)) (rules.ConsoleAct.take (for_console (e.1 i)))))) in clash cc
 
-pub going_down_clears : RulesOut goes-down-kinds.ps goes-down-kinds.r goes_down.Post (λ κs a. a.0 ≡ console_in sending true) (λ κs a x s. x.after.mode ≡ console-mode.Mode.Idle)
+pub going_down_clears : RulesOut goes-down-kinds.ps goes-down-kinds.r goes-down.Post (λ κs a. a.0 ≡ console_in sending true) (λ κs a x s. x.after.mode ≡ console-mode.Mode.Idle)
 unfolding rules.ends numbers_rules
 going_down_clears κs a x s e w p = let q : console-mode.Mode.Idle ≡ sending = sym w ∙ ap (λ (d : console-acted.Acted). d.after.mode) (p ∙ ap (λ (z : console-end.End). console.acted (rules.console_acts numbering (console.end z) rules.ConsoleAct.go_down)) e) in clash cc
 
-pub going_down_stays_up : RulesOut goes-down-kinds.ps goes-down-kinds.r goes_down.Post (λ κs a. a.0 ≡ console_in sending true) (λ κs a x s. x.after.up ≡ true)
+pub going_down_stays_up : RulesOut goes-down-kinds.ps goes-down-kinds.r goes-down.Post (λ κs a. a.0 ≡ console_in sending true) (λ κs a x s. x.after.up ≡ true)
 unfolding rules.ends numbers_rules
 going_down_stays_up κs a x s e w p = true≢false (sym w ∙ ap (λ (d : console-acted.Acted). d.after.up) (p ∙ ap (λ (z : console-end.End). console.acted (rules.console_acts numbering (console.end z) rules.ConsoleAct.go_down)) e))
 
-pub coming_back_holds : RulesOut comes-back-kinds.ps comes-back-kinds.r comes_back.Post (λ κs a. a.0 ≡ console_in sending false) (λ κs a x s. x.after.mode ≡ sending)
+pub coming_back_holds : RulesOut comes-back-kinds.ps comes-back-kinds.r comes-back.Post (λ κs a. a.0 ≡ console_in sending false) (λ κs a x s. x.after.mode ≡ sending)
 unfolding rules.ends numbers_rules
 coming_back_holds κs a x s e w p = let q : sending ≡ console-mode.Mode.Idle = sym w ∙ ap (λ (d : console-acted.Acted). d.after.mode) (p ∙ ap (λ (z : console-end.End). console.acted (rules.console_acts numbering (console.end z) rules.ConsoleAct.come_back)) e) in clash cc
 
-pub coming_back_counts_from_0 : RulesOut comes-back-kinds.ps comes-back-kinds.r comes_back.Post (λ κs a. a.0 ≡ console_in sending false) (λ κs a x s. x.after.numbers.used ≡ 0)
+pub coming_back_counts_from_0 : RulesOut comes-back-kinds.ps comes-back-kinds.r comes-back.Post (λ κs a. a.0 ≡ console_in sending false) (λ κs a x s. x.after.numbers.used ≡ 0)
 unfolding rules.ends numbers_rules
 coming_back_counts_from_0 κs a x s e w p = unequal (sym w ∙ ap (λ (d : console-acted.Acted). d.after.numbers.used) (p ∙ ap (λ (z : console-end.End). console.acted (rules.console_acts numbering (console.end z) rules.ConsoleAct.come_back)) e)) refl
 

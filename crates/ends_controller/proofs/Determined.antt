@@ -12,9 +12,9 @@ use Rattle.ends_controller.proofs.decides.decides.Reads as decides
 use Rattle.ends_controller.proofs.acts.takes_what_came.Kinds as takes-what-came-kinds
 use Rattle.ends_controller.proofs.acts.takes_what_came.Reads as takes-what-came
 use Rattle.ends_controller.proofs.acts.goes_down.Kinds as goes-down-kinds
-use Rattle.ends_controller.proofs.acts.goes_down.Reads as goes_down
+use Rattle.ends_controller.proofs.acts.goes_down.Reads as goes-down
 use Rattle.ends_controller.proofs.acts.comes_back.Kinds as comes-back-kinds
-use Rattle.ends_controller.proofs.acts.comes_back.Reads as comes_back
+use Rattle.ends_controller.proofs.acts.comes_back.Reads as comes-back
 use Rattle.ends_controller.proofs.acts.is_unknown.Kinds as is-unknown-kinds
 use Rattle.ends_controller.proofs.acts.is_unknown.Reads as is-unknown
 use Rattle.ends_controller.proofs.acts.take_refusal.Kinds as take-refusal-kinds
@@ -43,10 +43,10 @@ decides_determined κs a x y s t p q = p ∙ sym q
 pub takes_what_came_determined : Determined takes-what-came-kinds.ps takes-what-came-kinds.r takes-what-came.Post
 takes_what_came_determined κs a x y s t p q = p ∙ sym q
 
-pub goes_down_determined : Determined goes-down-kinds.ps goes-down-kinds.r goes_down.Post
+pub goes_down_determined : Determined goes-down-kinds.ps goes-down-kinds.r goes-down.Post
 goes_down_determined κs a x y s t p q = p ∙ sym q
 
-pub comes_back_determined : Determined comes-back-kinds.ps comes-back-kinds.r comes_back.Post
+pub comes_back_determined : Determined comes-back-kinds.ps comes-back-kinds.r comes-back.Post
 comes_back_determined κs a x y s t p q = p ∙ sym q
 
 pub is_unknown_determined : Determined is-unknown-kinds.ps is-unknown-kinds.r is-unknown.Post

@@ -25,9 +25,9 @@ use Rattle.ends_controller.proofs.turns.ok_sent.Reads as ok-sent
 use Rattle.ends_controller.proofs.acts.takes_what_came.Kinds as takes-what-came-kinds
 use Rattle.ends_controller.proofs.acts.takes_what_came.Reads as takes-what-came
 use Rattle.ends_controller.proofs.acts.goes_down.Kinds as goes-down-kinds
-use Rattle.ends_controller.proofs.acts.goes_down.Reads as goes_down
+use Rattle.ends_controller.proofs.acts.goes_down.Reads as goes-down
 use Rattle.ends_controller.proofs.acts.comes_back.Kinds as comes-back-kinds
-use Rattle.ends_controller.proofs.acts.comes_back.Reads as comes_back
+use Rattle.ends_controller.proofs.acts.comes_back.Reads as comes-back
 use Rattle.ends_controller.proofs.acts.is_unknown.Kinds as is-unknown-kinds
 use Rattle.ends_controller.proofs.acts.is_unknown.Reads as is-unknown
 use Rattle.ends_controller.proofs.acts.take_refusal.Kinds as take-refusal-kinds
@@ -69,19 +69,19 @@ pub delivers_twice : RulesOut takes-what-came-kinds.ps takes-what-came-kinds.r t
 unfolding rules.ends numbers_rules
 delivers_twice κs a x s e w p = let q : report.Delivered ≡ report.Nothing = sym w ∙ ap (λ (d : controller-acted.Acted). d.report) (p ∙ (λ i. controller.acted (rules.controller_acts numbering (controller.end (e.0 i)) (rules.ControllerAct.take (for_controller (e.1 i)))))) in clash cc
 
-pub going_down_clears : RulesOut goes-down-kinds.ps goes-down-kinds.r goes_down.Post (λ κs a. a.0 ≡ controller_in acking true) (λ κs a x s. x.after.mode ≡ controller-mode.Mode.Idle)
+pub going_down_clears : RulesOut goes-down-kinds.ps goes-down-kinds.r goes-down.Post (λ κs a. a.0 ≡ controller_in acking true) (λ κs a x s. x.after.mode ≡ controller-mode.Mode.Idle)
 unfolding rules.ends numbers_rules
 going_down_clears κs a x s e w p = let q : controller-mode.Mode.Idle ≡ acking = sym w ∙ ap (λ (d : controller-acted.Acted). d.after.mode) (p ∙ ap (λ (z : controller-end.End). controller.acted (rules.controller_acts numbering (controller.end z) rules.ControllerAct.go_down)) e) in clash cc
 
-pub going_down_stays_up : RulesOut goes-down-kinds.ps goes-down-kinds.r goes_down.Post (λ κs a. a.0 ≡ controller_in acking true) (λ κs a x s. x.after.up ≡ true)
+pub going_down_stays_up : RulesOut goes-down-kinds.ps goes-down-kinds.r goes-down.Post (λ κs a. a.0 ≡ controller_in acking true) (λ κs a x s. x.after.up ≡ true)
 unfolding rules.ends numbers_rules
 going_down_stays_up κs a x s e w p = true≢false (sym w ∙ ap (λ (d : controller-acted.Acted). d.after.up) (p ∙ ap (λ (z : controller-end.End). controller.acted (rules.controller_acts numbering (controller.end z) rules.ControllerAct.go_down)) e))
 
-pub i_kept_through_y : RulesOut comes-back-kinds.ps comes-back-kinds.r comes_back.Post (λ κs a. a.0 ≡ controller_in accepting false) (λ κs a x s. x.after.mode ≡ accepting)
+pub i_kept_through_y : RulesOut comes-back-kinds.ps comes-back-kinds.r comes-back.Post (λ κs a. a.0 ≡ controller_in accepting false) (λ κs a x s. x.after.mode ≡ accepting)
 unfolding rules.ends numbers_rules
 i_kept_through_y κs a x s e w p = let q : accepting ≡ controller-mode.Mode.Idle = sym w ∙ ap (λ (d : controller-acted.Acted). d.after.mode) (p ∙ ap (λ (z : controller-end.End). controller.acted (rules.controller_acts numbering (controller.end z) rules.ControllerAct.come_back)) e) in clash cc
 
-pub counter_starts_again : RulesOut comes-back-kinds.ps comes-back-kinds.r comes_back.Post (λ κs a. a.0 ≡ controller_in accepting false) (λ κs a x s. x.after.numbers.used ≡ 0)
+pub counter_starts_again : RulesOut comes-back-kinds.ps comes-back-kinds.r comes-back.Post (λ κs a. a.0 ≡ controller_in accepting false) (λ κs a x s. x.after.numbers.used ≡ 0)
 unfolding rules.ends numbers_rules
 counter_starts_again κs a x s e w p = unequal (sym w ∙ ap (λ (d : controller-acted.Acted). d.after.numbers.used) (p ∙ ap (λ (z : controller-end.End). controller.acted (rules.controller_acts numbering (controller.end z) rules.ControllerAct.come_back)) e)) refl
 

@@ -12,8 +12,6 @@ ghost use Rattle.std.specs.Prelude.{◌<◌, ◌≤◌, length};
 use bench::{Action, Bench};
 use letters::{Found, Line};
 use listing::Uses;
-use std::io;
-use std::io::Read;
 use wire::{I, J};
 
 // A record that is not well formed gets no action's letter, so that the step refuses it by 1.
@@ -49,25 +47,18 @@ fn action_of(part: &[u8]) -> Action
 }
 
 // One record: its line, and how the bench stands after its step.
-fn turn(
-    rt: &impl Print,
-    b: Bench,
-    part: &[u8],
-    line: &[u8],
-    out: &mut [u8],
-    back: &mut [u8],
-) -> io::Result<Bench>
+fn turn(b: Bench, part: &[u8], line: &[u8], out: &mut [u8], back: &mut [u8]) -> Bench
     requires { 0 < length part.now }
 {
     let action = action_of(part);
     let outcome = bench::step(b, action, out, back);
     let report = outcome.report;
     let after = outcome.bench;
-    text::say(rt, line)?;
-    refusals::print(rt, report)?;
-    answers::print(rt, report)?;
-    standing::print(rt, after, out, back)?;
-    Ok(after)
+    text::say(line);
+    refusals::print(report);
+    answers::print(report);
+    standing::print(after, out, back);
+    after
 }
 
 // Where a record that begins at `at` ends, with the bounds that the loop needs.
@@ -79,51 +70,29 @@ fn end_of(at: usize, len: usize) -> usize
 }
 
 // Plays the records on a fresh bench with 0 and 0. `lines` has the list program's line for each.
-fn play(
-    rt: &impl Print,
-    input: &[u8],
-    lines: &[u8],
-    out: &mut [u8],
-    back: &mut [u8],
-) -> io::Result<()> {
+fn play(input: &[u8], lines: &[u8], out: &mut [u8], back: &mut [u8]) {
     let begun = bench::fresh(J(0), I(0), out, back);
     let mut b = begun.bench;
     let mut at = 0;
     let mut line = 0;
     while at < input.len() {
         if lines.len() - line < 27 {
-            return Ok(());
+            return;
         }
         let end = end_of(at, input.len());
         let next = line + 27;
-        b = turn(rt, b, &input[at..end], &lines[line..next], out, back)?;
+        b = turn(b, &input[at..end], &lines[line..next], out, back);
         at = end;
         line = next;
     }
-    Ok(())
 }
 
-// Reads until the buffer is full, the input ends or a read fails, and gives how many bytes it put at the buffer's start.
-fn read_full<R: Read>(reader: &mut R, buf: &mut [u8]) -> usize
-    ensures { result ≤ length buf.new }
-{
-    let mut done = 0;
-    while done < buf.len() {
-        let got = reader.read(&mut buf[done..]).unwrap_or(0);
-        if got == 0 {
-            return done;
-        }
-        done += got;
-    }
-    done
-}
-
-fn main(rt: HostRuntime) -> io::Result<()> {
+fn main() {
     let mut input = [0u8; 209979]; // 9,999 records of 21 bytes; bytes after them are not looked at
     let mut lines = [0u8; 269973]; // 9,999 lines of 27 bytes
     let mut out = [0; 2048];
     let mut back = [0; 2048];
-    let got = read_full(&mut rt.reader(), &mut input);
+    let got = io::read_full(0, &mut input);
     bench::run(&input[..got], &mut lines);
-    play(&rt, &input[..got], &lines, &mut out, &mut back)
+    play(&input[..got], &lines, &mut out, &mut back);
 }

@@ -1,12 +1,11 @@
 // Words and numbers to standard output.
-use std::io;
 
-pub(crate) fn say(rt: &impl Print, words: &[u8]) -> io::Result<()> {
-    rt.write_all(words)
+pub(crate) fn say(words: &[u8]) {
+    io::write_all(1, words);
 }
 
 // Words, then a number.
-pub(crate) fn say_with(rt: &impl Print, words: &[u8], n: u32) -> io::Result<()> {
-    say(rt, words)?;
-    rt.print(n)
+pub(crate) fn say_with(words: &[u8], n: u32) {
+    say(words);
+    io::print_decimal(1, n as u64);
 }

@@ -2,15 +2,15 @@
 use mathlib.Core.Path.{sym, ◌∙◌}
 use Rattle.ground.proofs.Promise.{Determined}
 use Rattle.ground.proofs.is_block.Kinds as is-block-kinds
-use Rattle.ground.proofs.is_block.Reads as is_Block
+use Rattle.ground.proofs.is_block.Reads as is-block
 use Rattle.ground.proofs.all_cells.Kinds as all-cells-kinds
 use Rattle.ground.proofs.all_cells.Reads as all-cells
 use Rattle.ground.proofs.is_message.Kinds as is-message-kinds
 use Rattle.ground.proofs.is_message.Reads as is-message
 use Rattle.ground.proofs.all_are.Kinds as all-are-kinds
-use Rattle.ground.proofs.all_are.Reads as all_are
+use Rattle.ground.proofs.all_are.Reads as all-are
 
-pub is_block_determined : Determined is-block-kinds.ps is-block-kinds.r is_Block.Post
+pub is_block_determined : Determined is-block-kinds.ps is-block-kinds.r is-block.Post
 is_block_determined κs a x y s t p q = p ∙ sym q
 
 pub all_cells_determined : Determined all-cells-kinds.ps all-cells-kinds.r all-cells.Post
@@ -19,5 +19,5 @@ all_cells_determined κs a x y s t p q = p ∙ sym q
 pub is_message_determined : Determined is-message-kinds.ps is-message-kinds.r is-message.Post
 is_message_determined κs a x y s t p q = p ∙ sym q
 
-pub all_are_determined : Determined all-are-kinds.ps all-are-kinds.r all_are.Post
+pub all_are_determined : Determined all-are-kinds.ps all-are-kinds.r all-are.Post
 all_are_determined κs a x y s t p q = p ∙ sym q

@@ -9,21 +9,21 @@ use Rattle.ground.specs.Cell.{cell, cells, is_message, spaces}
 use Rattle.ground.specs.Every.{filled}
 use Rattle.ground.proofs.Promise.{RulesOut}
 use Rattle.ground.proofs.is_block.Kinds as is-block-kinds
-use Rattle.ground.proofs.is_block.Reads as is_Block
+use Rattle.ground.proofs.is_block.Reads as is-block
 use Rattle.ground.proofs.all_cells.Kinds as all-cells-kinds
 use Rattle.ground.proofs.all_cells.Reads as all-cells
 use Rattle.ground.proofs.is_message.Kinds as is-message-kinds
 use Rattle.ground.proofs.is_message.Reads as is-message
 use Rattle.ground.proofs.all_are.Kinds as all-are-kinds
-use Rattle.ground.proofs.all_are.Reads as all_are
+use Rattle.ground.proofs.all_are.Reads as all-are
 
-pub block_0_is_one : RulesOut is-block-kinds.ps is-block-kinds.r is_Block.Post (λ κs a. a.0 ≡ 0) (λ κs a x s. x ≡ true)
+pub block_0_is_one : RulesOut is-block-kinds.ps is-block-kinds.r is-block.Post (λ κs a. a.0 ≡ 0) (λ κs a x s. x ≡ true)
 block_0_is_one κs a x s e w p = true≢false (sym w ∙ p ∙ ap is_block e)
 
-pub block_1024_is_none : RulesOut is-block-kinds.ps is-block-kinds.r is_Block.Post (λ κs a. a.0 ≡ 1024) (λ κs a x s. x ≡ false)
+pub block_1024_is_none : RulesOut is-block-kinds.ps is-block-kinds.r is-block.Post (λ κs a. a.0 ≡ 1024) (λ κs a x s. x ≡ false)
 block_1024_is_none κs a x s e w p = true≢false (sym (p ∙ ap is_block e) ∙ w)
 
-pub block_1025_is_one : RulesOut is-block-kinds.ps is-block-kinds.r is_Block.Post (λ κs a. a.0 ≡ 1025) (λ κs a x s. x ≡ true)
+pub block_1025_is_one : RulesOut is-block-kinds.ps is-block-kinds.r is-block.Post (λ κs a. a.0 ≡ 1025) (λ κs a x s. x ≡ true)
 block_1025_is_one κs a x s e w p = true≢false (sym w ∙ p ∙ ap is_block e)
 
 pub all_cells_always_yes : RulesOut all-cells-kinds.ps all-cells-kinds.r all-cells.Post (λ κs a. a.0.now ≡ 0x7F ∷ []) (λ κs a x s. x ≡ true)
@@ -42,10 +42,10 @@ pub is_message_leaves_out_the_last : RulesOut is-message-kinds.ps is-message-kin
 unfolding is_message cells
 is_message_leaves_out_the_last κs a x s e w p = true≢false (sym (w ∙ ap (λ l. cells (take 15 l)) e) ∙ p ∙ ap is_message e)
 
-pub all_are_always_yes : RulesOut all-are-kinds.ps all-are-kinds.r all_are.Post (λ κs a. (a.0.now ≡ 1 ∷ []) × (a.1.0 ≡ 0)) (λ κs a x s. x ≡ true)
+pub all_are_always_yes : RulesOut all-are-kinds.ps all-are-kinds.r all-are.Post (λ κs a. (a.0.now ≡ 1 ∷ []) × (a.1.0 ≡ 0)) (λ κs a x s. x ≡ true)
 unfolding filled
 all_are_always_yes κs a x s e w p = true≢false (sym w ∙ p ∙ (λ i. filled (e.1 i) (e.0 i)))
 
-pub all_are_leaves_out_the_last : RulesOut all-are-kinds.ps all-are-kinds.r all_are.Post (λ κs a. (a.0.now ≡ 0 ∷ 1 ∷ []) × (a.1.0 ≡ 0)) (λ κs a x s. x ≡ filled a.1.0 (take (length a.0.now - 1) a.0.now))
+pub all_are_leaves_out_the_last : RulesOut all-are-kinds.ps all-are-kinds.r all-are.Post (λ κs a. (a.0.now ≡ 0 ∷ 1 ∷ []) × (a.1.0 ≡ 0)) (λ κs a x s. x ≡ filled a.1.0 (take (length a.0.now - 1) a.0.now))
 unfolding filled
 all_are_leaves_out_the_last κs a x s e w p = true≢false (sym (w ∙ (λ i. filled (e.1 i) (take (length (e.0 i) - 1) (e.0 i)))) ∙ p ∙ (λ i. filled (e.1 i) (e.0 i)))

@@ -22,7 +22,7 @@ use Rattle.listing.proofs.reading.read.Reads as read
 use Rattle.listing.proofs.reading.record_end.Kinds as record-end-kinds
 use Rattle.listing.proofs.reading.record_end.Reads as record-end
 use Rattle.listing.proofs.writing.two_digits.Kinds as two-digits-kinds
-use Rattle.listing.proofs.writing.two_digits.Reads as two_digits
+use Rattle.listing.proofs.writing.two_digits.Reads as two-digits
 use Rattle.listing.proofs.writing.write_line.Kinds as write-line-kinds
 use Rattle.listing.proofs.writing.write_line.Reads as write-line
 
@@ -64,13 +64,13 @@ takes_copies_4 = takes copied (laid 0x51 0x30 0x30 0x34 spaces) refl
 -- ## Two digits
 
 -- 12 as "21", and 9 as " 9"
-pub last_digit_first : RulesOut two-digits-kinds.ps two-digits-kinds.r two_digits.Post (λ κs a. a.0 ≡ 12) (λ κs a x s. x ≡ 0x32 ∷ 0x31 ∷ [])
+pub last_digit_first : RulesOut two-digits-kinds.ps two-digits-kinds.r two-digits.Post (λ κs a. a.0 ≡ 12) (λ κs a x s. x ≡ 0x32 ∷ 0x31 ∷ [])
 unfolding decimals
 last_digit_first κs a x s e w p =
     let q : ◌≡◌ {A = ℕ} 0x32 0x31 = ap (λ (l : List ℕ). get_or l 0 0) (sym w ∙ p ∙ ap (decimals 2) e) in
     omega (arith, q)
 
-pub space_for_0 : RulesOut two-digits-kinds.ps two-digits-kinds.r two_digits.Post (λ κs a. a.0 ≡ 9) (λ κs a x s. x ≡ 0x20 ∷ 0x39 ∷ [])
+pub space_for_0 : RulesOut two-digits-kinds.ps two-digits-kinds.r two-digits.Post (λ κs a. a.0 ≡ 9) (λ κs a x s. x ≡ 0x20 ∷ 0x39 ∷ [])
 unfolding decimals
 space_for_0 κs a x s e w p =
     let q : ◌≡◌ {A = ℕ} 0x20 0x30 = ap (λ (l : List ℕ). get_or l 0 0) (sym w ∙ p ∙ ap (decimals 2) e) in

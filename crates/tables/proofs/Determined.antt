@@ -5,7 +5,7 @@ use denote.Triple.Entry.{Args, Res}
 use Rattle.ground.proofs.Promise.{Determined, DeterminedWith}
 use Rattle.tables.specs.Shown.{seen}
 use Rattle.tables.proofs.change.take_out.Kinds as take-out-kinds
-use Rattle.tables.proofs.change.take_out.Reads as take_out
+use Rattle.tables.proofs.change.take_out.Reads as take-out
 use Rattle.tables.proofs.change.clear.Kinds as clear-kinds
 use Rattle.tables.proofs.change.clear.Reads as clear
 use Rattle.tables.proofs.shown.show_refusal.Kinds as show-refusal-kinds
@@ -13,7 +13,7 @@ use Rattle.tables.proofs.shown.show_refusal.Reads as show-refusal
 use Rattle.tables.specs.contracts.shown.show as show
 use Rattle.tables.proofs.ShowPromise as reading
 
-pub take_out_determined : DeterminedWith take-out-kinds.ps take-out-kinds.r take_out.Post (λ κs s. s.0.now)
+pub take_out_determined : DeterminedWith take-out-kinds.ps take-out-kinds.r take-out.Post (λ κs s. s.0.now)
 take_out_determined κs a x y s t p q = (refl, p ∙ sym q)
 
 pub clear_determined : DeterminedWith clear-kinds.ps clear-kinds.r clear.Post (λ κs s. s.0.now)

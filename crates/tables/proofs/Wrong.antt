@@ -15,7 +15,7 @@ use Rattle.tables.specs.Shown.{show_refusal, shown, shown_at, Seen, seen, showin
 use Rattle.tables.specs.Table.{is_table, taken_out}
 use Rattle.tables.proofs.Showing.{back_short, one_there}
 use Rattle.tables.proofs.change.take_out.Kinds as take-out-kinds
-use Rattle.tables.proofs.change.take_out.Reads as take_out
+use Rattle.tables.proofs.change.take_out.Reads as take-out
 use Rattle.tables.proofs.change.clear.Kinds as clear-kinds
 use Rattle.tables.proofs.change.clear.Reads as clear
 use Rattle.tables.proofs.shown.show_refusal.Kinds as show-refusal-kinds
@@ -36,10 +36,10 @@ first_out = (refl, refl)
 two_begin : (get_or with_two 31 0 ≡ 1) × (get_or with_two 32 0 ≡ 2)
 two_begin = (refl, refl)
 
-pub moved_by_31_bytes : RulesOut take-out-kinds.ps take-out-kinds.r take_out.Post (λ κs a. (a.0.now ≡ with_two) × (a.1.0 ≡ 2) × (a.1.1.0 ≡ 0)) (λ κs a x s. get_or s.0.now 0 0 ≡ get_or a.0.now 31 0)
+pub moved_by_31_bytes : RulesOut take-out-kinds.ps take-out-kinds.r take-out.Post (λ κs a. (a.0.now ≡ with_two) × (a.1.0 ≡ 2) × (a.1.1.0 ≡ 0)) (λ κs a x s. get_or s.0.now 0 0 ≡ get_or a.0.now 31 0)
 moved_by_31_bytes κs a x s e w p = unequal (sym first_out.0 ∙ sym (ap (λ (t : List ℕ). get_or t 0 0) (p ∙ (λ i. taken_out (e.0 i) (e.1 i) (e.2 i)))) ∙ w ∙ ap (λ (t : List ℕ). get_or t 31 0) e.0 ∙ two_begin.0) refl
 
-pub leaves_the_freed_place : RulesOut take-out-kinds.ps take-out-kinds.r take_out.Post (λ κs a. (a.0.now ≡ with_two) × (a.1.0 ≡ 2) × (a.1.1.0 ≡ 0)) (λ κs a x s. get_or s.0.now 32 0 ≡ get_or a.0.now 32 0)
+pub leaves_the_freed_place : RulesOut take-out-kinds.ps take-out-kinds.r take-out.Post (λ κs a. (a.0.now ≡ with_two) × (a.1.0 ≡ 2) × (a.1.1.0 ≡ 0)) (λ κs a x s. get_or s.0.now 32 0 ≡ get_or a.0.now 32 0)
 leaves_the_freed_place κs a x s e w p = unequal (sym first_out.1 ∙ sym (ap (λ (t : List ℕ). get_or t 32 0) (p ∙ (λ i. taken_out (e.0 i) (e.1 i) (e.2 i)))) ∙ w ∙ ap (λ (t : List ℕ). get_or t 32 0) e.0 ∙ two_begin.1) refl
 
 none_out : (t : List ℕ) → taken_out t 1 1 ≡ t
@@ -47,7 +47,7 @@ unfolding taken_out when◌then◌else◌
 none_out t = by_test (is_table (length t) 1) (λ e. rw e) (λ e. rw e)
 
 -- the place that the count names
-pub takes_out_at_the_count : RulesOut take-out-kinds.ps take-out-kinds.r take_out.Post (λ κs a. (a.1.0 ≡ 1) × (a.1.1.0 ≡ 1)) (λ κs a x s. s.0.now ≡ a.0.now → ⊥)
+pub takes_out_at_the_count : RulesOut take-out-kinds.ps take-out-kinds.r take-out.Post (λ κs a. (a.1.0 ≡ 1) × (a.1.1.0 ≡ 1)) (λ κs a x s. s.0.now ≡ a.0.now → ⊥)
 takes_out_at_the_count κs a x s e w p = w (p ∙ (λ i. taken_out a.0.now (e.0 i) (e.1 i)) ∙ none_out a.0.now)
 
 pub clear_changes_nothing : RulesOut clear-kinds.ps clear-kinds.r clear.Post (λ κs a. a.0.now ≡ 1 ∷ []) (λ κs a x s. s.0.now ≡ a.0.now)

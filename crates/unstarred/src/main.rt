@@ -3,7 +3,6 @@
 
 use bench::{Action, Bench};
 use ends::Report;
-use std::io;
 use wire::{I, J, ReadHead};
 
 fn refusal_of(report: Report) -> u64 {
@@ -23,9 +22,10 @@ fn refusal_read(head: ReadHead) -> u64 {
     }
 }
 
-fn tell(rt: &impl Print, check: &[u8], n: u64) -> io::Result<()> {
-    rt.write_all(check)?;
-    rt.println(n)
+fn tell(check: &[u8], n: u64) {
+    io::write_all(1, check);
+    io::print_decimal(1, n);
+    io::write_all(1, b"\n");
 }
 
 // `first` is the first cell of the message, the others are spaces.
@@ -50,25 +50,18 @@ fn after(b: Bench, a: Action, out: &mut [u8], back: &mut [u8]) -> Bench {
     outcome.bench
 }
 
-fn tell_step(
-    rt: &impl Print,
-    check: &[u8],
-    b: Bench,
-    a: Action,
-    out: &mut [u8],
-    back: &mut [u8],
-) -> io::Result<()> {
+fn tell_step(check: &[u8], b: Bench, a: Action, out: &mut [u8], back: &mut [u8]) {
     let outcome = bench::step(b, a, out, back);
     let report = outcome.report;
-    tell(rt, check, refusal_of(report))
+    tell(check, refusal_of(report));
 }
 
 // An action on a fresh bench, whose channels are empty.
-fn try_fresh(rt: &impl Print, check: &[u8], a: Action) -> io::Result<()> {
+fn try_fresh(check: &[u8], a: Action) {
     let mut out = [0; 2048];
     let mut back = [0; 2048];
     let b = fresh(&mut out, &mut back);
-    tell_step(rt, check, b, a, &mut out, &mut back)
+    tell_step(check, b, a, &mut out, &mut back);
 }
 
 // The bench after 21 times three copies and one: 64 packets.
@@ -82,47 +75,43 @@ fn sent_64(b: Bench, letter: u8, out: &mut [u8], back: &mut [u8]) -> Bench {
     after(full, action(letter, 0, 1, 0x20), out, back)
 }
 
-fn try_full_to_controller(rt: &impl Print) -> io::Result<()> {
+fn try_full_to_controller() {
     let mut out = [0; 2048];
     let mut back = [0; 2048];
     let begun = fresh(&mut out, &mut back);
     let asks = after(begun, action(b'P', 0, 0, 0x20), &mut out, &mut back);
     let full = sent_64(asks, b'Q', &mut out, &mut back);
     tell_step(
-        rt,
         b"Q1, 64 packets: ",
         full,
         action(b'Q', 0, 1, 0x20),
         &mut out,
         &mut back,
-    )?;
+    );
     tell_step(
-        rt,
         b"R64, 64 packets: ",
         full,
         action(b'R', 64, 0, 0x20),
         &mut out,
         &mut back,
-    )?;
+    );
     tell_step(
-        rt,
         b"L64, 64 packets: ",
         full,
         action(b'L', 64, 0, 0x20),
         &mut out,
         &mut back,
-    )?;
+    );
     tell_step(
-        rt,
         b"L63, 64 packets: ",
         full,
         action(b'L', 63, 0, 0x20),
         &mut out,
         &mut back,
-    )
+    );
 }
 
-fn try_full_to_console(rt: &impl Print) -> io::Result<()> {
+fn try_full_to_console() {
     let mut out = [0; 2048];
     let mut back = [0; 2048];
     let begun = fresh(&mut out, &mut back);
@@ -131,69 +120,65 @@ fn try_full_to_console(rt: &impl Print) -> io::Result<()> {
     let offers = after(sent, action(b'R', 0, 0, 0x20), &mut out, &mut back);
     let full = sent_64(offers, b'O', &mut out, &mut back);
     tell_step(
-        rt,
         b"O1, 64 packets: ",
         full,
         action(b'O', 0, 1, 0x20),
         &mut out,
         &mut back,
-    )?;
+    );
     tell_step(
-        rt,
         b"S64, 64 packets: ",
         full,
         action(b'S', 64, 0, 0x20),
         &mut out,
         &mut back,
-    )?;
+    );
     tell_step(
-        rt,
         b"M64, 64 packets: ",
         full,
         action(b'M', 64, 0, 0x20),
         &mut out,
         &mut back,
-    )?;
+    );
     tell_step(
-        rt,
         b"M63, 64 packets: ",
         full,
         action(b'M', 63, 0, 0x20),
         &mut out,
         &mut back,
-    )
+    );
 }
 
 // A list of one record: the number in its line.
-fn try_record(rt: &impl Print, check: &[u8], record: &[u8]) -> io::Result<()> {
+fn try_record(check: &[u8], record: &[u8]) {
     let mut line = [0; 27];
     bench::run(record, &mut line);
-    rt.write_all(check)?;
-    rt.write_all(&line[7..9])?;
-    rt.write_all(b"\n")
+    io::write_all(1, check);
+    io::write_all(1, &line[7..9]);
+    io::write_all(1, b"\n");
 }
 
-fn try_packet(rt: &impl Print, check: &[u8], packet: &[u8]) -> io::Result<()> {
+fn try_packet(check: &[u8], packet: &[u8]) {
     let head = wire::read_packet(packet).head;
-    tell(rt, check, refusal_read(head))
+    tell(check, refusal_read(head));
 }
 
-fn main(rt: HostRuntime) -> io::Result<()> {
-    try_fresh(&rt, b"P, cell 0x1F: ", action(b'P', 0, 0, 0x1F))?;
-    try_fresh(&rt, b"P, cell 0x7F: ", action(b'P', 0, 0, 0x7F))?;
-    try_fresh(&rt, b"P, cell 0x20: ", action(b'P', 0, 0, 0x20))?;
-    try_fresh(&rt, b"P, cell 0x7E: ", action(b'P', 0, 0, 0x7E))?;
-    try_packet(&rt, b"packet of 31 bytes: ", &[0; 31])?;
-    try_packet(&rt, b"packet of 33 bytes: ", &[0; 33])?;
-    try_fresh(&rt, b"Q4: ", action(b'Q', 0, 4, 0x20))?;
-    try_fresh(&rt, b"R0, 4 copies: ", action(b'R', 0, 4, 0x20))?;
-    try_fresh(&rt, b"R64, no packet: ", action(b'R', 64, 0, 0x20))?;
-    try_fresh(&rt, b"S64, no packet: ", action(b'S', 64, 0, 0x20))?;
-    try_fresh(&rt, b"L64, no packet: ", action(b'L', 64, 0, 0x20))?;
-    try_fresh(&rt, b"M64, no packet: ", action(b'M', 64, 0, 0x20))?;
-    try_full_to_controller(&rt)?;
-    try_full_to_console(&rt)?;
-    try_record(&rt, b"record L640: ", b"L640                \n")?;
-    try_record(&rt, b"record S640: ", b"S640                \n")?;
-    try_record(&rt, b"record L630: ", b"L630                \n")
+fn main() {
+    try_fresh(b"P, cell 0x1F: ", action(b'P', 0, 0, 0x1F));
+    try_fresh(b"P, cell 0x7F: ", action(b'P', 0, 0, 0x7F));
+    try_fresh(b"P, cell 0x20: ", action(b'P', 0, 0, 0x20));
+    try_fresh(b"P, cell 0x7E: ", action(b'P', 0, 0, 0x7E));
+    try_packet(b"packet of 31 bytes: ", &[0; 31]);
+    try_packet(b"packet of 33 bytes: ", &[0; 33]);
+    try_fresh(b"Q4: ", action(b'Q', 0, 4, 0x20));
+    try_fresh(b"R0, 4 copies: ", action(b'R', 0, 4, 0x20));
+    try_fresh(b"R64, no packet: ", action(b'R', 64, 0, 0x20));
+    try_fresh(b"S64, no packet: ", action(b'S', 64, 0, 0x20));
+    try_fresh(b"L64, no packet: ", action(b'L', 64, 0, 0x20));
+    try_fresh(b"M64, no packet: ", action(b'M', 64, 0, 0x20));
+    try_full_to_controller();
+    try_full_to_console();
+    try_record(b"record L640: ", b"L640                \n");
+    try_record(b"record S640: ", b"S640                \n");
+    try_record(b"record L630: ", b"L630                \n");
 }

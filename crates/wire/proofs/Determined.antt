@@ -4,7 +4,7 @@ use Rattle.ground.proofs.Promise.{Determined, DeterminedWith}
 use Rattle.wire.proofs.packets.direction_of.Kinds as direction-of-kinds
 use Rattle.wire.proofs.packets.direction_of.Reads as direction-of
 use Rattle.wire.proofs.packets.read_head.Kinds as read-head-kinds
-use Rattle.wire.proofs.packets.read_head.Reads as read_head
+use Rattle.wire.proofs.packets.read_head.Reads as read-head
 use Rattle.wire.proofs.packets.read_packet.Kinds as read-packet-kinds
 use Rattle.wire.proofs.packets.read_packet.Reads as read-packet
 use Rattle.wire.proofs.packets.write_packet.Kinds as write-packet-kinds
@@ -14,7 +14,7 @@ use Rattle.wire.proofs.records.read_record.Reads as read-record
 use Rattle.wire.proofs.records.write_record.Kinds as write-record-kinds
 use Rattle.wire.proofs.records.write_record.Reads as write-record
 use Rattle.wire.proofs.frame.big_endian.Kinds as big-endian-kinds
-use Rattle.wire.proofs.frame.big_endian.Reads as big_endian
+use Rattle.wire.proofs.frame.big_endian.Reads as big-endian
 use Rattle.wire.proofs.frame.from_big_endian.Kinds as from-big-endian-kinds
 use Rattle.wire.proofs.frame.from_big_endian.Reads as from-big-endian
 use Rattle.wire.proofs.frame.big_endian_16.Kinds as big-endian-16-kinds
@@ -22,15 +22,15 @@ use Rattle.wire.proofs.frame.big_endian_16.Reads as big-endian-16
 use Rattle.wire.proofs.frame.from_big_endian_16.Kinds as from-big-endian-16-kinds
 use Rattle.wire.proofs.frame.from_big_endian_16.Reads as from-big-endian-16
 use Rattle.wire.proofs.packets.head_of.Kinds as head-of-kinds
-use Rattle.wire.proofs.packets.head_of.Reads as head_of
+use Rattle.wire.proofs.packets.head_of.Reads as head-of
 use Rattle.wire.proofs.records.end_of.Kinds as end-of-kinds
-use Rattle.wire.proofs.records.end_of.Reads as end_of_lem
+use Rattle.wire.proofs.records.end_of.Reads as end-of
 use Rattle.wire.proofs.records.number_of.Kinds as number-of-kinds
-use Rattle.wire.proofs.records.number_of.Reads as number_of_lem
+use Rattle.wire.proofs.records.number_of.Reads as number-of
 use Rattle.wire.proofs.records.block_of.Kinds as block-of-kinds
-use Rattle.wire.proofs.records.block_of.Reads as Block-of
+use Rattle.wire.proofs.records.block_of.Reads as block-of
 use Rattle.wire.proofs.records.record_of.Kinds as record-of-kinds
-use Rattle.wire.proofs.records.record_of.Reads as record_of
+use Rattle.wire.proofs.records.record_of.Reads as record-of
 use Rattle.wire.proofs.records.renewed.Kinds as renewed-kinds
 use Rattle.wire.proofs.records.renewed.Reads as renewed
 use Rattle.wire.proofs.records.aged.Kinds as aged-kinds
@@ -41,7 +41,7 @@ use Rattle.wire.proofs.packets.fields_of.Reads as fields-of
 pub direction_of_determined : Determined direction-of-kinds.ps direction-of-kinds.r direction-of.Post
 direction_of_determined κs a x y s t p q = p ∙ sym q
 
-pub read_head_determined : Determined read-head-kinds.ps read-head-kinds.r read_head.Post
+pub read_head_determined : Determined read-head-kinds.ps read-head-kinds.r read-head.Post
 read_head_determined κs a x y s t p q = p ∙ sym q
 
 pub read_packet_determined : Determined read-packet-kinds.ps read-packet-kinds.r read-packet.Post
@@ -56,7 +56,7 @@ read_record_determined κs a x y s t p q = p ∙ sym q
 pub write_record_determined : DeterminedWith write-record-kinds.ps write-record-kinds.r write-record.Post (λ κs s. s.0.now)
 write_record_determined κs a x y s t p q = (p.0 ∙ sym q.0, p.1 ∙ sym q.1)
 
-pub big_endian_determined : Determined big-endian-kinds.ps big-endian-kinds.r big_endian.Post
+pub big_endian_determined : Determined big-endian-kinds.ps big-endian-kinds.r big-endian.Post
 big_endian_determined κs a x y s t p q = p ∙ sym q
 
 pub from_big_endian_determined : Determined from-big-endian-kinds.ps from-big-endian-kinds.r from-big-endian.Post
@@ -68,19 +68,19 @@ big_endian_16_determined κs a x y s t p q = p ∙ sym q
 pub from_big_endian_16_determined : Determined from-big-endian-16-kinds.ps from-big-endian-16-kinds.r from-big-endian-16.Post
 from_big_endian_16_determined κs a x y s t p q = p ∙ sym q
 
-pub head_of_determined : Determined head-of-kinds.ps head-of-kinds.r head_of.Post
+pub head_of_determined : Determined head-of-kinds.ps head-of-kinds.r head-of.Post
 head_of_determined κs a x y s t p q = p ∙ sym q
 
-pub end_of_determined : Determined end-of-kinds.ps end-of-kinds.r end_of_lem.Post
+pub end_of_determined : Determined end-of-kinds.ps end-of-kinds.r end-of.Post
 end_of_determined κs a x y s t p q = p ∙ sym q
 
-pub number_of_determined : Determined number-of-kinds.ps number-of-kinds.r number_of_lem.Post
+pub number_of_determined : Determined number-of-kinds.ps number-of-kinds.r number-of.Post
 number_of_determined κs a x y s t p q = p ∙ sym q
 
-pub block_of_determined : Determined block-of-kinds.ps block-of-kinds.r Block-of.Post
+pub block_of_determined : Determined block-of-kinds.ps block-of-kinds.r block-of.Post
 block_of_determined κs a x y s t p q = p ∙ sym q
 
-pub record_of_determined : Determined record-of-kinds.ps record-of-kinds.r record_of.Post
+pub record_of_determined : Determined record-of-kinds.ps record-of-kinds.r record-of.Post
 record_of_determined κs a x y s t p q = p ∙ sym q
 
 pub renewed_determined : Determined renewed-kinds.ps renewed-kinds.r renewed.Post

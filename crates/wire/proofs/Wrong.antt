@@ -30,27 +30,27 @@ use Rattle.wire.proofs.RecordTrips.{is_other as is-unread, record_read_back}
 use Rattle.wire.proofs.Vectors.{need_i, need_i_1, need_i_1_read, need_i_1_written}
 use Rattle.wire.proofs.Writing.{packet_written_lem}
 use Rattle.wire.proofs.frame.big_endian.Kinds as big-endian-kinds
-use Rattle.wire.proofs.frame.big_endian.Reads as big_endian
+use Rattle.wire.proofs.frame.big_endian.Reads as big-endian
 use Rattle.wire.proofs.packets.direction_of.Kinds as direction-of-kinds
 use Rattle.wire.proofs.packets.direction_of.Reads as direction-of
 use Rattle.wire.proofs.packets.fields_of.Kinds as fields-of-kinds
 use Rattle.wire.proofs.packets.fields_of.Reads as fields-of
 use Rattle.wire.proofs.packets.head_of.Kinds as head-of-kinds
-use Rattle.wire.proofs.packets.head_of.Reads as head_of
+use Rattle.wire.proofs.packets.head_of.Reads as head-of
 use Rattle.wire.proofs.packets.read_head.Kinds as read-head-kinds
-use Rattle.wire.proofs.packets.read_head.Reads as read_head
+use Rattle.wire.proofs.packets.read_head.Reads as read-head
 use Rattle.wire.proofs.packets.read_packet.Kinds as read-packet-kinds
 use Rattle.wire.proofs.packets.read_packet.Reads as read-packet
 use Rattle.wire.proofs.packets.write_packet.Kinds as write-packet-kinds
 use Rattle.wire.proofs.packets.write_packet.Reads as write-packet
 use Rattle.wire.proofs.records.end_of.Kinds as end-of-kinds
-use Rattle.wire.proofs.records.end_of.Reads as end_of_lem
+use Rattle.wire.proofs.records.end_of.Reads as end-of
 use Rattle.wire.proofs.records.number_of.Kinds as number-of-kinds
-use Rattle.wire.proofs.records.number_of.Reads as number_of_lem
+use Rattle.wire.proofs.records.number_of.Reads as number-of
 use Rattle.wire.proofs.records.block_of.Kinds as block-of-kinds
-use Rattle.wire.proofs.records.block_of.Reads as Block-of
+use Rattle.wire.proofs.records.block_of.Reads as block-of
 use Rattle.wire.proofs.records.record_of.Kinds as record-of-kinds
-use Rattle.wire.proofs.records.record_of.Reads as record_of
+use Rattle.wire.proofs.records.record_of.Reads as record-of
 use Rattle.wire.proofs.records.renewed.Kinds as renewed-kinds
 use Rattle.wire.proofs.records.renewed.Reads as renews
 use Rattle.wire.proofs.records.aged.Kinds as aged-kinds
@@ -104,11 +104,11 @@ reads_31_bytes_as_13 κs a x s e w p =
     unequal z refl
 
 -- a reader of the head alone
-pub refuses_every_head : RulesOut read-head-kinds.ps read-head-kinds.r read_head.Post (λ κs a. a.0.now ≡ need_i_1) (λ κs a x s. (n : ℕ) × (x ≡ Refused n))
+pub refuses_every_head : RulesOut read-head-kinds.ps read-head-kinds.r read-head.Post (λ κs a. a.0.now ≡ need_i_1) (λ κs a x s. (n : ℕ) × (x ≡ Refused n))
 refuses_every_head κs a x s e w p =
     is_other w.0 (NeedI (record { 0 = 1 })) (sym w.1 ∙ p ∙ ap (λ (r : ReadPacket). r.head) (ap packet_read e ∙ need_i_1_read))
 
-pub looks_at_no_message : RulesOut read-head-kinds.ps read-head-kinds.r read_head.Post (λ κs a. a.0.now ≡ set need_i_1 31 1) (λ κs a x s. x ≡ Is (NeedI (record { 0 = 1 })))
+pub looks_at_no_message : RulesOut read-head-kinds.ps read-head-kinds.r read-head.Post (λ κs a. a.0.now ≡ set need_i_1 31 1) (λ κs a x s. x ≡ Is (NeedI (record { 0 = 1 })))
 unfolding packet_read read_refusal head_at head_of value bytes_of first when◌then◌else◌ is_blank filled
 looks_at_no_message κs a x s e w p = is_other 15 (NeedI (record { 0 = 1 })) (sym (p ∙ ap (λ (l : List ℕ). (packet_read l).head) e) ∙ w)
 
@@ -216,12 +216,12 @@ always_to_the_controller κs a x s e w p = let q : ToController ≡ ToConsole = 
 pub swaps_the_directions : RulesOut direction-of-kinds.ps direction-of-kinds.r direction-of.Post (λ κs a. a.0 ≡ NeedI (record { 0 = 1 })) (λ κs a x s. x ≡ ToConsole)
 swaps_the_directions κs a x s e w p = let q : ToConsole ≡ ToController = sym w ∙ p ∙ ap direction_of e in clash cc
 
-pub need_i_with_a_second_number : RulesOut head-of-kinds.ps head-of-kinds.r head_of.Post (λ κs a. (a.0 ≡ 1) × (a.1.0 ≡ 1) × (a.1.1.0 ≡ 1)) (λ κs a x s. x ≡ Is (NeedI (record { 0 = 1 })))
+pub need_i_with_a_second_number : RulesOut head-of-kinds.ps head-of-kinds.r head-of.Post (λ κs a. (a.0 ≡ 1) × (a.1.0 ≡ 1) × (a.1.1.0 ≡ 1)) (λ κs a x s. x ≡ Is (NeedI (record { 0 = 1 })))
 unfolding head_of when◌then◌else◌
 need_i_with_a_second_number κs a x s e w p = is_other 15 (NeedI (record { 0 = 1 })) (sym (p ∙ (λ i. head_of (e.0 i) (e.1 i) (e.2 i))) ∙ w)
 
 abbrev Heads : ℕ → ReadHead → Type 0
-Heads i h = RulesOut head-of-kinds.ps head-of-kinds.r head_of.Post (λ κs a. (a.0 ≡ 2) × (a.1.0 ≡ 1) × (a.1.1.0 ≡ i)) (λ κs a x s. x ≡ h)
+Heads i h = RulesOut head-of-kinds.ps head-of-kinds.r head-of.Post (λ κs a. (a.0 ≡ 2) × (a.1.0 ≡ 1) × (a.1.1.0 ≡ i)) (λ κs a x s. x ≡ h)
 
 pub refuses_an_offer_of_1 : Heads 1 (Refused 15)
 unfolding head_of when◌then◌else◌
@@ -239,38 +239,38 @@ kind_5_for_ok κs a x s e w p = unequal (sym w ∙ p.0 ∙ ap kind_of e) refl
 
 -- ## Numbers
 
-pub least_byte_first : RulesOut big-endian-kinds.ps big-endian-kinds.r big_endian.Post (λ κs a. a.0 ≡ 1) (λ κs a x s. x ≡ 1 ∷ 0 ∷ 0 ∷ 0 ∷ [])
+pub least_byte_first : RulesOut big-endian-kinds.ps big-endian-kinds.r big-endian.Post (λ κs a. a.0 ≡ 1) (λ κs a x s. x ≡ 1 ∷ 0 ∷ 0 ∷ 0 ∷ [])
 unfolding bytes_of
 least_byte_first κs a x s e w p = unequal (ap (λ (l : List ℕ). get_or l 0 0) (sym w ∙ p ∙ ap (bytes_of 4) e)) refl
 
-pub always_zeros : RulesOut big-endian-kinds.ps big-endian-kinds.r big_endian.Post (λ κs a. a.0 ≡ 1) (λ κs a x s. x ≡ replicate 4 0)
+pub always_zeros : RulesOut big-endian-kinds.ps big-endian-kinds.r big-endian.Post (λ κs a. a.0 ≡ 1) (λ κs a x s. x ≡ replicate 4 0)
 unfolding bytes_of
 always_zeros κs a x s e w p = unequal (ap (λ (l : List ℕ). get_or l 3 0) (sym w ∙ p ∙ ap (bytes_of 4) e)) refl
 
 -- ## What a number record has
 
-pub always_end_1 : RulesOut end-of-kinds.ps end-of-kinds.r end_of_lem.Post (λ κs a. a.0 ≡ ControllerOld (record { 0 = 0 })) (λ κs a x s. x ≡ 1)
+pub always_end_1 : RulesOut end-of-kinds.ps end-of-kinds.r end-of.Post (λ κs a. a.0 ≡ ControllerOld (record { 0 = 0 })) (λ κs a x s. x ≡ 1)
 always_end_1 κs a x s e w p = unequal (sym w ∙ p ∙ ap end_of e) refl
 
-pub ends_from_0 : RulesOut end-of-kinds.ps end-of-kinds.r end_of_lem.Post (λ κs a. a.0 ≡ unused) (λ κs a x s. x ≡ 0)
+pub ends_from_0 : RulesOut end-of-kinds.ps end-of-kinds.r end-of.Post (λ κs a. a.0 ≡ unused) (λ κs a x s. x ≡ 0)
 ends_from_0 κs a x s e w p = unequal (sym w ∙ p ∙ ap end_of e) refl
 
-pub always_number_0 : RulesOut number-of-kinds.ps number-of-kinds.r number_of_lem.Post (λ κs a. a.0 ≡ ConsoleOld (record { 0 = 1 })) (λ κs a x s. x ≡ 0)
+pub always_number_0 : RulesOut number-of-kinds.ps number-of-kinds.r number-of.Post (λ κs a. a.0 ≡ ConsoleOld (record { 0 = 1 })) (λ κs a x s. x ≡ 0)
 always_number_0 κs a x s e w p = unequal (sym w ∙ p ∙ ap number_of e) refl
 
-pub next_number : RulesOut number-of-kinds.ps number-of-kinds.r number_of_lem.Post (λ κs a. a.0 ≡ ConsoleOld (record { 0 = 1 })) (λ κs a x s. x ≡ suc (number_of a.0))
+pub next_number : RulesOut number-of-kinds.ps number-of-kinds.r number-of.Post (λ κs a. a.0 ≡ ConsoleOld (record { 0 = 1 })) (λ κs a x s. x ≡ suc (number_of a.0))
 next_number κs a x s e w p = unequal (sym (ap (λ r. suc (number_of r)) e) ∙ sym w ∙ p ∙ ap number_of e) refl
 
-pub block_64_of_version_1 : RulesOut block-of-kinds.ps block-of-kinds.r Block-of.Post (λ κs a. a.0 ≡ unused) (λ κs a x s. x ≡ 64)
+pub block_64_of_version_1 : RulesOut block-of-kinds.ps block-of-kinds.r block-of.Post (λ κs a. a.0 ≡ unused) (λ κs a x s. x ≡ 64)
 block_64_of_version_1 κs a x s e w p = unequal (sym w ∙ p ∙ ap block_of e) refl
 
-pub always_block_0 : RulesOut block-of-kinds.ps block-of-kinds.r Block-of.Post (λ κs a. a.0 ≡ Console (record { 0 = 7 }) 64) (λ κs a x s. x ≡ 0)
+pub always_block_0 : RulesOut block-of-kinds.ps block-of-kinds.r block-of.Post (λ κs a. a.0 ≡ Console (record { 0 = 7 }) 64) (λ κs a x s. x ≡ 0)
 always_block_0 κs a x s e w p = unequal (sym w ∙ p ∙ ap block_of e) refl
 
 -- ## A record of an end, a number and a block
 
 abbrev Makes : ℕ → ℕ → ℕ → ReadRecord → Type 0
-Makes end number block y = RulesOut record-of-kinds.ps record-of-kinds.r record_of.Post (λ κs a. (a.0 ≡ end) × (a.1.0 ≡ number) × (a.1.1.0 ≡ block)) (λ κs a x s. x ≡ y)
+Makes end number block y = RulesOut record-of-kinds.ps record-of-kinds.r record-of.Post (λ κs a. (a.0 ≡ end) × (a.1.0 ≡ number) × (a.1.1.0 ≡ block)) (λ κs a x s. x ≡ y)
 
 pub refuses_number_0 : Makes 1 0 0 (Unread 15)
 unfolding record_of when◌then◌else◌

@@ -3,7 +3,7 @@ use Rattle.std.proofs.Common.{◌-◌, ◌≤◌}
 use Rattle.explain.proofs.standing.print_packets.Given as goal
 
 abbrev pub invariant-loop-place : goal.invariant-loop-place
-invariant-loop-place g l = l.place ≤ 64
+invariant-loop-place l = l.place ≤ 64
 
 abbrev pub decreases-loop-place : goal.decreases-loop-place
-decreases-loop-place g l = 64 - l.place
+decreases-loop-place l = 64 - l.place

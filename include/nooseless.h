@@ -223,7 +223,7 @@ uint8_t nooseless_carry_record(const uint8_t *from, size_t from_len, uint8_t *to
  * second after the first; at power-on that of the larger number is taken of those that are whole, whatever its version (of equal
  * numbers either will do), and the other written anew from it before the box starts.
  *
- * What this gives is proved of these very entries (crates/demand3, the theorem boxes-for-c-right): two boxes that keep the rule, from
+ * What this gives is proved of these very entries (crates/demand3, the theorem boxes_for_c_right): two boxes that keep the rule, from
  * any two records on, over any radio. Whatever either sent may come never, once, often, late, in any order, through any cuts and
  * returns of either end, and junk may come at any time. One thing is presumed: bytes that read as a packet for an end were sent by the
  * other, for which the radio's own error detection has to stand. Then

@@ -2,9 +2,10 @@
 # docs/PROMISES.md beside the sources: every function that can be called from outside its crate stands on one of its two lists, entries and
 # inner functions, and has one `ensures` that cites the row's definitions, no `requires`, a determinacy lemma that sees every buffer lent
 # to be written, and two wrong programs. An entry that refuses has the theorem that a refusal leaves all; an inner function is called by the
-# crates that its row names, and no page offers it. The sentences of the demands are all there. Every definition, lemma, must-fail edit and
-# test function that a page names exists, what DECISIONS says a decision is pinned by is defined in the crate beside it, and the line counts
-# of READING are those of the files.
+# crates that its row names, and no page offers it. What the archive exports is each entry for C, with its clauses and its parameters, word
+# for word, and nothing else. The sentences of the demands are all there. Every definition, lemma, must-fail edit and test function that a
+# page names exists, what DECISIONS says a decision is pinned by is defined in the crate beside it, and the line counts of READING are those
+# of the files.
 set -u
 dir=target/promises
 mkdir -p "$dir" || exit 1
@@ -27,6 +28,23 @@ functions() {
     sed -n -E 's/^ *pub (extern "C" )?fn ([a-z0-9_]+).*/\2/p' "$1"
 }
 
+# uses FILE: what its `use`s name, pub and ghost ones too, a path to a line behind the words before it: `use a::{b, c};` is `use a::b` and
+# `use a::c`.
+uses() {
+    awk '
+        /^ *(pub |ghost )*use / { on = 1; text = "" }
+        on { text = text $0 " " }
+        on && /;/ {
+            on = 0; gsub(/[ \t]+/, " ", text); sub(/^ /, "", text); sub(/ *; *$/, "", text)
+            from = index(text, "{")
+            if (!from) { print text; next }
+            head = substr(text, 1, from - 1); body = substr(text, from + 1); sub(/ *}$/, "", body)
+            count = split(body, part, /, */)
+            for (k = 1; k <= count; k++) { gsub(/^ | $/, "", part[k]); if (part[k] != "") print head part[k] }
+        }
+    ' "$1"
+}
+
 # Public: the `pub fn`s of lib.rt, of the modules that it opens with `pub mod`, and those that it names with `pub use`. Any other way to
 # make a function public is not understood, and says so.
 public() {
@@ -37,15 +55,28 @@ public() {
         for module in $(sed -n 's/^pub mod \([a-z_]*\);$/\1/p' "$lib"); do
             functions "$src/$module.rt" | sed "s|.*|$crate::$module::&|"
         done
-        sed -n 's/^pub use \([a-z_]*\)::\([a-z0-9_]*\);$/\1 \2/p' "$lib" | while read -r module name; do
+        uses "$lib" | sed -n 's/^pub use \([a-z_]*\)::\([a-z0-9_]*\)$/\1 \2/p' | while read -r module name; do
             functions "$src/$module.rt" | sed -n "s|^$name\$|$crate::&|p"
         done
     done | sort
 }
 
 strange() {
-    grep -HnE '^ *pub (mod|use) ' crates/*/src/*.rt |
-        grep -vE 'src/lib\.rt:[0-9]+:pub mod [a-z_]+;$|src/lib\.rt:[0-9]+:pub use [a-z_]+::[A-Za-z0-9_]+;$'
+    for file in crates/*/src/*.rt; do
+        uses "$file" | sed -n 's/^pub use /pub use /p' | while read -r line; do
+            case "$file" in
+                */src/lib.rt) printf '%s\n' "$line" | grep -vE '^pub use [a-z_]+::[A-Za-z0-9_]+$' | sed "s|^|$file: |" ;;
+                *) echo "$file: $line" ;;
+            esac
+        done
+    done
+    grep -HnE '^ *pub mod ' crates/*/src/*.rt | grep -vE 'src/lib\.rt:[0-9]+:pub mod [a-z_]+;$'
+    # what else is `pub`: a type or a field; a function for C only as an export, which stands in a private module of boundary_c
+    grep -HnE '^ *pub ' crates/*/src/*.rt | grep -vE ':[0-9]+: *pub (fn |mod |use |struct |enum |[a-z0-9_]+: )' |
+        grep -vE '^crates/boundary_c/src/[a-z]+\.rt:[0-9]+:pub extern "C" fn '
+    grep -HnE '^ *(pub )?(unsafe )?(impl|trait)[ <]|macro_rules|export_name|#\[path' crates/*/src/*.rt
+    grep -HnE 'no_mangle' crates/*/src/*.rt | grep -vE '^crates/boundary_c/src/[a-z]+\.rt:[0-9]+:#\[unsafe\(no_mangle\)\]$'
+    grep -HnE '^ *pub mod ' crates/boundary_c/src/lib.rt
     find crates/*/src -mindepth 2 -name '*.rt'
 }
 
@@ -59,15 +90,17 @@ named() {
     sed 's/^| `\([^`]*\)`.*/\1/' | sort
 }
 
-# Of each `pub fn`, from its head to the line that opens its body: file, name, how many ensures, requires and `&mut`, and its `ensures`.
+# Of each `pub fn`, from its head to the line that opens its body: file, name, how many ensures, requires and `&mut`, and its `ensures`
+# to the end.
 heads() {
     for file in crates/*/src/*.rt; do
         awk -v file="$file" '
             /^ *pub (extern "C" )?fn / { on = 1; name = $0; sub(/^.*fn /, "", name); sub(/[<(].*/, "", name); e = 0; r = 0; m = 0; says = "" }
-            on && /^ *ensures / { e++; says = says $0 }
-            on && /^ *requires / { r++ }
+            on && /^ *ensures[ *]/ { e++ }
+            on && /^ *requires[ *]/ { r++ }
+            on && e && !/^ *\{ *$/ { says = says $0 }
             on { text = $0; m += gsub(/&(.[a-z]+ )?mut /, "", text) }
-            on && /^ *\{/ { print file, name, e, r, m, says; on = 0 }
+            on && /\{ *$/ { print file, name, e, r, m, says; on = 0 }
         ' "$file"
     done
 }
@@ -83,19 +116,29 @@ head_of() {
 }
 
 # Functions without one promise, with something asked of the caller, whose lemma sees fewer buffers than are lent to be written, or whose
-# promise does not cite the definitions of their row, or is no equation.
+# promise does not cite the definitions of their row, which it has from where the row says, or is no equation.
 unpromised() {
     while read -r function; do
         row=$(grep -F "| \`$function\` |" docs/PROMISES.md)
-        lemma=$(printf '%s\n' "$row" | sed -n 's/.*\.\([a-z0-9-]*-determined\)`.*/\1/p')
-        seen=$(cat crates/"${function%%::*}"/proofs/*.antt | grep "^pub $lemma :" | grep -o 'now (s ' | wc -l)
-        head_of "$function" | awk -v of="$function" -v seen="$seen" '
+        lemma=$(printf '%s\n' "$row" | sed -n 's/.*\.\([a-z0-9_]*_determined\)`.*/\1/p')
+        seen=$(cat crates/"${function%%::*}"/proofs/*.antt | grep "^pub $lemma :" | grep -oE '[^A-Za-z0-9_.]s(\.[0-9]+)+\.now' | wc -l)
+        head_of "$function" > "$dir/head"
+        [ "$(wc -l < "$dir/head")" -eq 1 ] || echo "$function: $(wc -l < "$dir/head") heads"
+        awk -v of="$function" -v seen="$seen" '
             $3 != 1 || $4 != 0 { print of ": " $3 " ensures, " $4 " requires" }
             $5 != seen + 0 { print of ": " $5 " buffers lent to be written, the lemma sees " seen }
             $0 !~ /≡/ && of != "channels::bytes_fit" { print of ": no equation" }
-        '
-        for definition in $(printf '%s\n' "$row" | awk -F ' [|] ' '{ print $3 }' | grep -oE '\.[A-Za-z0-9-]+`' | tr -d '.`'); do
-            head_of "$function" | grep -qE "[^A-Za-z0-9-]$definition[^A-Za-z0-9-]" || echo "$function: its promise does not cite $definition"
+        ' "$dir/head"
+        cut -d ' ' -f 6- "$dir/head" > "$dir/says"
+        uses "$(cut -d ' ' -f 1 "$dir/head")" > "$dir/ghosts"
+        for definition in $(printf '%s\n' "$row" | awk -F ' [|] ' '{ print $3 }' | grep -oE '`[^`]+`' | tr -d '`'); do
+            name=${definition#*/}
+            case "$definition" in
+                */*) from=Rattle.${definition%%/*}.specs.${name%%.*}.${name#*.} ;;
+                *) from=Rattle.std.specs.Prelude.$name ;; # the library's
+            esac
+            grep -qE "[^A-Za-z0-9_]${name#*.}[^A-Za-z0-9_]" "$dir/says" && grep -qxF "ghost use $from" "$dir/ghosts" ||
+                echo "$function: its promise does not cite $definition"
         done
     done < "$dir/public"
 }
@@ -107,7 +150,7 @@ lacking() {
         { entry = $1; sub(/^[|] /, "", entry) }
         NF != 7 { print entry ": " NF " cells"; next }
         $3 !~ /^`/ { print entry ": no definition" }
-        $4 !~ /^`[a-z0-9_]+\/[A-Z][A-Za-z]*\.[a-z0-9-]+-determined`$/ { print entry ": no determinacy lemma" }
+        $4 !~ /^`[a-z0-9_]+\/[A-Z][A-Za-z]*\.[a-z0-9_]+_determined`$/ { print entry ": no determinacy lemma" }
         {
             split("", shut); count = 0; text = $wrong
             while (match(text, /`([a-z0-9_]+\/(Wrong[A-Za-z]*|Echoes)\.[^` ]+|([a-z_]+\/)?[A-Za-z0-9_]+\.edit)`/)) {
@@ -139,21 +182,40 @@ leaving() {
     done
 }
 
-# callers FUNCTION: the other crates that call it, by its path or by that of its module.
+# What the functions of the sources say, but for comments, clauses and `use`s; and what each source uses: crate and file before each line.
+code() {
+    for file in crates/*/src/*.rt; do
+        crate=${file#crates/}
+        awk -v at="${crate%%/*} $file" '
+            /^ *(pub |ghost )*use / { on = 1 }
+            !on && !/^ *(ensures|requires)[ *]/ { sub(/\/\/.*/, ""); if ($0 ~ /[^ ]/) print at, $0 }
+            on && /;/ { on = 0 }
+        ' "$file"
+    done
+}
+
+used() {
+    for file in crates/*/src/*.rt; do
+        crate=${file#crates/}
+        uses "$file" | sed -n "s|^use |${crate%%/*} $file |p"
+    done
+}
+
+# callers FUNCTION: the other crates that call it, by its path, by that of its module, or by its name where they use it.
 callers() {
     crate=${1%%::*}
     path=${1%::*}
     module=${path##*::}
     name=${1##*::}
-    for src in crates/*/src; do
-        other=$(basename "$(dirname "$src")")
-        [ "$other" = "$crate" ] && continue
-        using=$(grep -lx "use $path;" "$src"/*.rt)
-        if grep -qE "(^|[^a-z_:])$1([^a-z0-9_]|\$)" "$src"/*.rt ||
-            { [ -n "$using" ] && grep -qE "(^|[^a-z_:])$module::$name\(" $using; }; then
-            echo "$other"
-        fi
-    done | paste -sd, | sed 's/,/, /g'
+    {
+        awk -v crate="$crate" '$1 != crate' "$dir/code" | grep -E "[^a-z0-9_:]$1([^a-z0-9_]|\$)" | cut -d ' ' -f 1
+        awk -v crate="$crate" -v whole="$1" -v path="$path" '$1 != crate && ($3 == whole || $3 == path) { print $1, $2, $3 }' "$dir/used" |
+            while read -r other file what; do
+                called="$module::$name"
+                [ "$what" = "$path" ] || called=$name
+                grep -F "$other $file " "$dir/code" | grep -qE "[^a-z0-9_:.]$called\(" && echo "$other"
+            done
+    } | sort -u | paste -sd, | sed 's/,/, /g'
 }
 
 # Inner functions whose row names other callers than they have, or no reason; one that no other crate calls should be private.
@@ -166,6 +228,52 @@ called() {
             $6 != real { print of ": called by " real ", not by " $6 }
             length($7) < 10 { print of ": no reason" }
         '
+    done
+}
+
+# head FILE FUNCTION: parameters, answer and clauses of that `pub fn`, in one line, however it is laid out.
+head() {
+    awk -v name="$2" '
+        /^pub (extern "C" )?fn / { sub(/^pub (extern "C" )?fn /, ""); rest = $0; sub(/[<(].*/, "", rest); on = rest == name; text = "" }
+        on && /^\{ *$/ { exit }
+        on { text = text " " $0 }
+        END { gsub(/[ \t]+/, " ", text); gsub(/\( /, "(", text); gsub(/,? \)/, ")", text); print text }
+    ' "$1"
+}
+
+# body FILE FUNCTION: its body, in one line.
+body() {
+    awk -v name="$2" '
+        /^pub (extern "C" )?fn / { sub(/^pub (extern "C" )?fn /, ""); sub(/[<(].*/, ""); on = $0 == name; open = 0; text = "" }
+        on && open && /^}/ { exit }
+        on && open { text = text " " $0 }
+        on && /^\{ *$/ { open = 1 }
+        END { gsub(/[ \t]+/, " ", text); gsub(/\( /, "(", text); gsub(/,? \)/, ")", text); sub(/^ /, "", text); print text }
+    ' "$1"
+}
+
+# Exports of the archive, which are all `pub extern "C" fn`s of boundary_c, that are not entries of boundary word for word: the same module,
+# name, parameters, answer and clauses, each word of a clause from the same place, and a body that hands all to the entry; and entries of
+# boundary that are no export. Also a row of the table for C whose function is none.
+exported() {
+    grep -c . "$dir/exports" | grep -qx 0 && echo "no exports"
+    rows Entries | named | sed -n 's/^boundary::/boundary_c::/p' | sort | comm -3 - "$dir/exports" | sed 's/^\t*/not both a row and an export: /'
+    sed -n 's/^boundary::/boundary_c::/p' "$dir/public" | comm -3 - "$dir/exports" | sed 's/^\t*/not both an entry and an export: /'
+    while IFS= read -r export; do
+        path=${export#*::}
+        file=${path%%::*}.rt
+        name=${path##*::}
+        [ -f "crates/boundary/src/$file" ] || continue
+        promised=$(head "crates/boundary/src/$file" "$name")
+        [ -n "$promised" ] && [ "$(head "crates/boundary_c/src/$file" "$name")" = "$promised" ] ||
+            echo "$export: not word for word what boundary::$path promises"
+        given=$(printf '%s\n' "$promised" | sed 's/^[^(]*(\([^)]*\)).*/\1/' | tr ',' '\n' | sed -n 's/^ *\([a-z0-9_]*\):.*/\1/p' | paste -sd, | sed 's/,/, /g')
+        [ "$(body "crates/boundary_c/src/$file" "$name")" = "boundary::$path($given)" ] || echo "$export: does not call boundary::$path with what it is handed"
+    done < "$dir/exports"
+    for file in crates/boundary_c/src/*.rt; do
+        [ "$(grep -c '^#\[unsafe(no_mangle)\]$' "$file")" = "$(grep -c '^pub extern "C" fn ' "$file")" ] || echo "$file: functions that are no exports"
+        uses "$file" | sed -n '/^ghost use /p' | sort > "$dir/words"
+        uses "crates/boundary/src/$(basename "$file")" 2> /dev/null | sed -n '/^ghost use /p' | sort | comm -23 "$dir/words" - | sed "s|^|$file: not so in boundary: |"
     done
 }
 
@@ -184,12 +292,24 @@ sentences() {
     cmp -s "$dir/demands" "$dir/quoted" || diff "$dir/demands" "$dir/quoted"
 }
 
-# defines WORD FILE...: one of the files defines it.
+# defines WORD FILE...: one of the files declares it: a definition, lemma, field or constructor, before its colon or parameters; of a source
+# a type or a function.
 defines() {
     word=$1
     shift
     awk -v word="$word" '
-        { n = 1; while ($n ~ /^(unfoldable|abbrev|pub|record|data|enum|struct|«)$/) n++; if ($n == word) hit = 1 }
+        /^ *--/ { next }
+        {
+            n = 1; while ($n ~ /^(unfoldable|abbrev|pub|record|data|enum|struct|fn|const)$/) n++
+            if (FILENAME ~ /\.rt$/) {
+                name = $n; sub(/[^A-Za-z0-9_].*/, "", name)
+                if (n > 1 && name == word && $(n - 1) ~ /^(enum|struct|fn|const)$/) hit = 1
+                next
+            }
+            for (k = n; k <= NF && $k !~ /^[:({]/ && $k != "="; k++);
+            if (k > NF || $k == "=") next
+            for (k--; k >= n; k--) if ($k == word) hit = 1
+        }
         END { exit !hit }
     ' "$@"
 }
@@ -232,7 +352,7 @@ names() {
 pinned() {
     awk -F ' [|] ' '/^\| [0-9]+ \|/ {
         text = $NF; waiting = 0
-        while (match(text, /`[A-Za-z][A-Za-z0-9-]*`|\([a-z0-9_]+\)/)) {
+        while (match(text, /`[A-Za-z][A-Za-z0-9_]*`|\([a-z0-9_]+\)/)) {
             part = substr(text, RSTART + 1, RLENGTH - 2); closes = substr(text, RSTART, 1) == "("; text = substr(text, RSTART + RLENGTH)
             if (!closes) { waiting++; name[waiting] = part; continue }
             for (k = 1; k <= waiting; k++) print FNR, name[k], part
@@ -240,7 +360,8 @@ pinned() {
         }
         for (k = 1; k <= waiting; k++) print FNR, name[k], "no-crate"
     }' docs/DECISIONS.md | while read -r line name crate; do
-        defines "$name" crates/"$crate"/specs/*.antt crates/"$crate"/proofs/*.antt $(find crates/"$crate"/src -name '*.rt' 2> /dev/null) 2> /dev/null ||
+        files=$(ls crates/"$crate"/specs/*.antt crates/"$crate"/proofs/*.antt crates/"$crate"/src/*.rt 2> /dev/null)
+        { [ -n "$files" ] && defines "$name" $files; } ||
             echo "docs/DECISIONS.md:$line: $name ($crate)"
     done
 }
@@ -256,6 +377,8 @@ counts() {
 
 public > "$dir/public"
 heads > "$dir/heads"
+code > "$dir/code"
+used > "$dir/used"
 strange > "$dir/strange"
 check "ways to be public that this test does not understand" "$dir/strange"
 { rows Entries; rows 'Inner functions'; } | named > "$dir/rows"
@@ -274,6 +397,11 @@ called > "$dir/called"
 check "inner functions and who calls them" "$dir/called"
 offered > "$dir/offered"
 check "inner functions that a page offers" "$dir/offered"
+for file in crates/boundary_c/src/*.rt; do
+    functions "$file" | sed "s|.*|boundary_c::$(basename "$file" .rt)::&|"
+done | sort > "$dir/exports"
+exported > "$dir/exported"
+check "exports of the archive that are no entries, word for word" "$dir/exported"
 sentences > "$dir/sentences"
 check "the demands, and the sentences in the table" "$dir/sentences"
 for page in docs/PROMISES.md docs/READING.md docs/TRACE.md docs/DECISIONS.md docs/MAP.md docs/BOXES.md README.md; do

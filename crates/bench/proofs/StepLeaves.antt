@@ -167,7 +167,7 @@ module _ (b : Here) (w : WellFormed numbering is_message b.history) where
       of_letter none e = subst (Leaves b) (sym (step_none b a e)) refused_leaves
       of_letter (some l) e = subst (Leaves b) (sym (step_of b w a l e)) (told_leaves (as_rules l a))
 
--- so that its two cells in a line are those of no other report (records/proofs/Reports.antt)
+-- so that its two cells in a line are those of no other report (Reports.antt)
 two_digits : (r : Report) → ((n : ℕ) → r ≡ report.Refused n → (1 ≤ n) × (n ≤ 15)) → TwoDigits r
 two_digits report.Nothing h = tt
 two_digits report.Delivered h = tt

@@ -15,7 +15,7 @@ pub struct Uses {
     pub message: bool,
 }
 
-// The fields of a list record after its letter, and whether they are well formed; 0, 0 and 16 spaces if not. An enum can't hold an array.
+// The fields of a list record after its letter, and whether they are well formed; 0, 0 and 16 spaces if not.
 #[derive(Clone, Copy)]
 pub struct Fields {
     pub fits: bool,

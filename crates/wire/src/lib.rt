@@ -48,7 +48,7 @@ pub enum ReadHead {
     Is(Head),
 }
 
-// An enum can't hold an array, so the message stands beside the head: 16 zero bytes beside a refusal.
+// The message stands beside the head: 16 zero bytes beside a refusal.
 #[derive(Clone, Copy)]
 pub struct ReadPacket {
     pub head: ReadHead,

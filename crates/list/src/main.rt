@@ -1,7 +1,6 @@
 // The list program: records from standard input, a line for each to standard output.
 #![tactic(auto)]
 
-
 // Plays the records and writes their lines.
 fn play(input: &[u8], output: &mut [u8]) {
     let written = bench::run(input, output);

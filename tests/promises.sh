@@ -231,8 +231,8 @@ called() {
     done
 }
 
-# head FILE FUNCTION: parameters, answer and clauses of that `pub fn`, in one line, however it is laid out.
-head() {
+# signature FILE FUNCTION: parameters, answer and clauses of that `pub fn`, in one line, however it is laid out.
+signature() {
     awk -v name="$2" '
         /^pub (extern "C" )?fn / { sub(/^pub (extern "C" )?fn /, ""); rest = $0; sub(/[<(].*/, "", rest); on = rest == name; text = "" }
         on && /^\{ *$/ { exit }
@@ -264,8 +264,8 @@ exported() {
         file=${path%%::*}.rt
         name=${path##*::}
         [ -f "crates/boundary/src/$file" ] || continue
-        promised=$(head "crates/boundary/src/$file" "$name")
-        [ -n "$promised" ] && [ "$(head "crates/boundary_c/src/$file" "$name")" = "$promised" ] ||
+        promised=$(signature "crates/boundary/src/$file" "$name")
+        [ -n "$promised" ] && [ "$(signature "crates/boundary_c/src/$file" "$name")" = "$promised" ] ||
             echo "$export: not word for word what boundary::$path promises"
         given=$(printf '%s\n' "$promised" | sed 's/^[^(]*(\([^)]*\)).*/\1/' | tr ',' '\n' | sed -n 's/^ *\([a-z0-9_]*\):.*/\1/p' | paste -sd, | sed 's/,/, /g')
         [ "$(body "crates/boundary_c/src/$file" "$name")" = "boundary::$path($given)" ] || echo "$export: does not call boundary::$path with what it is handed"

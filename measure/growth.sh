@@ -6,7 +6,7 @@
 set -eu
 cd "$(dirname "$0")/.."
 . measure/counting.inc
-rt check list >/dev/null
+./run /dev/null
 built list_peer
 cc -o "$to/list_peer" "$to/list_peer.o"
 

@@ -5,7 +5,7 @@
 set -eu
 cd "$(dirname "$0")/.."
 . measure/counting.inc
-rt check list >/dev/null
+./run /dev/null
 test -x target/second/gen || second/build.sh target/second
 built list_peer
 cc -o "$to/list_peer" "$to/list_peer.o"

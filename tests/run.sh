@@ -69,27 +69,24 @@ explains() {
 
 # A project of three crates and one that isn't asked for, with a toolchain whose program copies its input, and which fails while there is a file `broken`.
 mock() {
-    mkdir -p "$dir/mock/crates" "$dir/tools"
+    mkdir -p "$dir/mock/crates/ground" "$dir/mock/crates/bench" "$dir/mock/crates/other" "$dir/mock/crates/list" "$dir/tools"
     cp run "$dir/mock/run"
     printf '%s\n' '# a comment' ground: 'bench: ground io' 'other: ground' 'list: ground bench libc' >"$dir/mock/crates.txt"
     touch "$dir/mock/crates/source"
     cat >"$dir/tools/rt" <<'END'
 #!/bin/sh
-echo "$@" >>calls
-[ ! -f broken ] || exit 1
-echo "rt: ground proved (unchanged since it was last proved)"
-echo "fn bench::step: proved"
-echo "rt: bench proved (12 s)"
-echo "rt: list proved (3 s)"
-mkdir -p target/bin
-ln -sf "$(command -v cat)" "target/bin/$2"
+crate=$(basename "$(pwd)")
+echo "$* $crate" >>../../calls
+[ ! -f ../../broken ] || exit 1
+echo "fn $crate::step: proved"
+[ "$1" != run ] || ln -sf "$(command -v cat)" "out/$crate"
 END
     chmod +x "$dir/tools/rt"
 }
 
-mocked() { # CALLS STATUS: plays the listing; rt was called that often by now
+mocked() { # BUILDS STATUS: plays the listing; rt was called that often by now to build it
     PATH="$dir/tools:$PATH" "$dir/mock/run" "$listing" >"$dir/out" 2>"$dir/err"
-    [ $? -eq "$2" ] && [ "$(grep -cx 'check list' "$dir/mock/calls")" -eq "$1" ]
+    [ $? -eq "$2" ] && [ "$(grep -cx 'lib ground' "$dir/mock/calls")" -eq "$1" ]
 }
 
 # Whatever is to be built is built here.

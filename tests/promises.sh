@@ -1,11 +1,11 @@
 #!/bin/sh
-# docs/PROMISES.md beside the sources: every function that can be called from outside its crate stands on one of its two lists, entries and
-# inner functions, and has one `ensures` that cites the row's definitions, no `requires`, a determinacy lemma that sees every buffer lent
-# to be written, and two wrong programs. An entry that refuses has the theorem that a refusal leaves all; an inner function is called by the
-# crates that its row names, and no page offers it. What the archive exports is each entry for C, with its clauses and its parameters, word
-# for word, and nothing else. The sentences of the demands are all there. Every definition, lemma, must-fail edit and test function that a
-# page names exists, what DECISIONS says a decision is pinned by is defined in the crate beside it, and the line counts of READING are those
-# of the files.
+# docs/PROMISES.md beside the sources: every function that can be called from outside its crate, a method or a conversion too, stands on one
+# of its two lists, entries and inner functions, and has one `ensures` that cites the row's definitions, of a conversion its `from_gives` or
+# `try_from_gives`, no `requires`, a determinacy lemma over its own promise that sees every buffer lent to be written, and two wrong programs.
+# An entry that refuses has the theorem that a refusal leaves all; an inner function is called by the crates that its row names, and no page
+# offers it. What the archive exports is each entry for C, with its clauses and its parameters, word for word, and nothing else. The sentences
+# of the demands are all there. Every definition, lemma, must-fail edit, path in the code and test function that a page names exists, what
+# DECISIONS says a decision is pinned by is defined in the crate beside it, and the line counts of READING are those of the files.
 set -u
 dir=target/promises
 mkdir -p "$dir" || exit 1
@@ -23,9 +23,44 @@ check() {
     fi
 }
 
-# The functions `pub fn` of a source file, one to a line.
+# Of each `pub fn`, from its head to the line that opens its body, and of each conversion: file, name with its type before it, what it is
+# (free, of a type, of a type with a self, or a conversion), where its proof's reading stands, how many ensures, requires and `&mut`, and
+# its `ensures` to the end. A conversion's is what it says that it gives.
+heads() {
+    for file in crates/*/src/*.rt; do
+        awk -v file="$file" '
+            BEGIN { place = file; sub(/.*\//, "", place); sub(/\.rt$/, "", place); place = place == "lib" ? "" : place "." }
+            /^impl[ <]/ {
+                type = $0; sub(/^impl(<[^<>]*>)? /, "", type); gives = ""; laws = 0; law = ""
+                if (type ~ /^(Try)?From</) {
+                    gives = type ~ /^Try/ ? "try_from" : "from"; from = type
+                    sub(/^(Try)?From</, "", from); sub(/[<>].*/, "", from); sub(/^.* for /, "", type)
+                }
+                sub(/[< ].*/, "", type)
+            }
+            /^}/ { type = ""; gives = "" }
+            gives != "" && $0 ~ "^ *ghost " gives "_gives = [{].*[}];$" { laws++; law = law $0 }
+            /^ *pub (extern "C" )?fn / || (gives != "" && $0 ~ "^ *fn " gives "[(]") {
+                on = 1; name = $0; sub(/^ *(pub (extern "C" )?)?fn /, "", name); sub(/[<(].*/, "", name)
+                e = gives == "" ? 0 : laws; r = 0; m = 0; says = gives == "" ? "" : law; whole = ""
+            }
+            on && /^ *ensures[ *]/ { e++ }
+            on && /^ *requires[ *]/ { r++ }
+            on && e && gives == "" && !/^ *\{ *$/ { says = says $0 }
+            on { whole = whole $0; text = $0; m += gsub(/&(.[a-z]+ )?mut /, "", text) }
+            on && /\{ *$/ {
+                on = 0; reads = name; what = "free"
+                if (type != "") { reads = type "." name; what = whole ~ /\( *(&(.[a-z]+ )?)?(mut )?self *[,)]/ ? "self" : "of" }
+                if (gives != "") { reads = toupper(substr(type, 1, 1)) substr(type, 2) (gives == "from" ? "From" : "TryFrom") from "." name; what = "conversion" }
+                print file, (type == "" ? name : type "::" name), what, place reads, e, r, m, says
+            }
+        ' "$file"
+    done
+}
+
+# The functions of a source file, one to a line, of those heads.
 functions() {
-    sed -n -E 's/^ *pub (extern "C" )?fn ([a-z0-9_]+).*/\2/p' "$1"
+    awk -v file="$1" '$1 == file { print $2 }' "$dir/heads"
 }
 
 # uses FILE: what its `use`s name, pub and ghost ones too, a path to a line behind the words before it: `use a::{b, c};` is `use a::b` and
@@ -45,36 +80,75 @@ uses() {
     ' "$1"
 }
 
-# Public: the `pub fn`s of lib.rt, of the modules that it opens with `pub mod`, and those that it names with `pub use`. Any other way to
-# make a function public is not understood, and says so.
-public() {
+# What a crate opens to others: crate, module, item or * for each item of the module, and the path before it.
+opened() {
     for lib in crates/*/src/lib.rt; do
-        src=$(dirname "$lib")
-        crate=$(basename "$(dirname "$src")")
-        functions "$lib" | sed "s|.*|$crate::&|"
-        for module in $(sed -n 's/^pub mod \([a-z_]*\);$/\1/p' "$lib"); do
-            functions "$src/$module.rt" | sed "s|.*|$crate::$module::&|"
-        done
-        uses "$lib" | sed -n 's/^pub use \([a-z_]*\)::\([a-z0-9_]*\)$/\1 \2/p' | while read -r module name; do
-            functions "$src/$module.rt" | sed -n "s|^$name\$|$crate::&|p"
-        done
-    done | sort
+        crate=${lib#crates/}
+        crate=${crate%%/*}
+        echo "$crate lib * $crate"
+        sed -n "s/^pub mod \([a-z_]*\);\$/$crate \1 * $crate::\1/p" "$lib"
+        uses "$lib" | sed -n "s/^pub use \([a-z_]*\)::\([A-Za-z0-9_]*\)\$/$crate \1 \2 $crate/p"
+    done
+}
+
+# The types that are `pub`: crate, module, name.
+types() {
+    for file in crates/*/src/*.rt; do
+        crate=${file#crates/}
+        sed -n -E "s/^pub (struct|enum) ([A-Za-z0-9]+).*/${crate%%/*} $(basename "$file" .rt) \2/p" "$file"
+    done
+}
+
+# Public: the path, file and name of each `pub fn` that lib.rt, a module that it opens with `pub mod`, or a `pub use` of it gives to others;
+# of each method of a type that is so given; and of each conversion, at the type that it gives. A method of a type without such a path has -.
+# Any other way to make a function public is not understood, and says so.
+public() {
+    awk -v opened="$dir/opened" -v types="$dir/types" '
+        FILENAME == opened { n++; crate[n] = $1; module[n] = $2; item[n] = $3; before[n] = $4; next }
+        FILENAME == types { where[$1 " " $3] = where[$1 " " $3] " " $2; next }
+        {
+            split($1, part, "/"); c = part[2]; m = part[4]; sub(/\.rt$/, "", m); thing = $2; sub(/::.*/, "", thing)
+            if ($3 == "conversion") { print c "::" $2, $1, $2; next }
+            if ($3 == "free") { count = 1; place[1] = m } else count = split(where[c " " thing], place, " ")
+            found = 0
+            for (k = 1; k <= count; k++) for (j = 1; j <= n; j++)
+                if (crate[j] == c && module[j] == place[k] && (item[j] == "*" || item[j] == thing)) { print before[j] "::" $2, $1, $2; found = 1 }
+            if (!found && $3 != "free") print "-", $1, $2
+        }
+    ' "$dir/opened" "$dir/types" "$dir/heads" | sort
 }
 
 strange() {
     for file in crates/*/src/*.rt; do
         uses "$file" | sed -n 's/^pub use /pub use /p' | while read -r line; do
+            module=${line#pub use }
             case "$file" in
-                */src/lib.rt) printf '%s\n' "$line" | grep -vE '^pub use [a-z_]+::[A-Za-z0-9_]+$' | sed "s|^|$file: |" ;;
+                */src/lib.rt)
+                    printf '%s\n' "$line" | grep -vE '^pub use [a-z_]+::[A-Za-z0-9_]+$' | sed "s|^|$file: |"
+                    [ -f "$(dirname "$file")/${module%%::*}.rt" ] || echo "$file: $line"
+                    ;;
                 *) echo "$file: $line" ;;
             esac
         done
     done
     grep -HnE '^ *pub mod ' crates/*/src/*.rt | grep -vE 'src/lib\.rt:[0-9]+:pub mod [a-z_]+;$'
-    # what else is `pub`: a type or a field; a function for C only as an export, which stands in a private module of boundary_c
-    grep -HnE '^ *pub ' crates/*/src/*.rt | grep -vE ':[0-9]+: *pub (fn |mod |use |struct |enum |[a-z0-9_]+: )' |
+    # what else is `pub`: a type, another's type under its own name, or a field; a function for C only as an export, which stands in a
+    # private module of boundary_c
+    grep -HnE '^ *pub ' crates/*/src/*.rt | grep -vE ':[0-9]+: *pub (fn |mod |use |struct |enum |type |[a-z0-9_]+: )' |
         grep -vE '^crates/boundary_c/src/[a-z]+\.rt:[0-9]+:pub extern "C" fn '
-    grep -HnE '^ *(pub )?(unsafe )?(impl|trait)[ <]|macro_rules|export_name|#\[path' crates/*/src/*.rt
+    grep -HnE '^ *pub type ' crates/*/src/*.rt | grep -v '^[^:]*:[0-9]*:pub type \([A-Za-z0-9]*\) = [a-z_]*::\1[<;]'
+    # a block of methods or one of the two conversions stands in a line of its own; no other trait is met but by these derives, and one that
+    # the crate keeps to itself
+    grep -HnE '^ *(pub(\([a-z]+\))? )?(unsafe )?(impl|trait)[ <]|macro_rules|export_name|#\[path|^ *(pub(\([a-z]+\))? )?mod [a-z_]+ *\{' crates/*/src/*.rt |
+        grep -vE ':[0-9]+:impl(<[^<>]*>)? ((Try)?From<[^<>]*> for )?[A-Za-z0-9]+(<[^<>]*>)? \{$|:[0-9]+:(pub\(crate\) )?trait [A-Za-z0-9]+(: Copy)? \{$' |
+        while read -r line; do
+            trait=$(printf '%s\n' "$line" | sed -n 's/^[^:]*:[0-9]*:impl \([A-Za-z0-9]*\) for [A-Za-z0-9]* {$/\1/p')
+            [ -n "$trait" ] && cat "${line%%/src/*}"/src/*.rt | grep -qE "^(pub\(crate\) )?trait $trait(: Copy)? \{\$" || printf '%s\n' "$line"
+        done
+    grep -HnE 'derive' crates/*/src/*.rt | grep -vE ':[0-9]+:#\[derive\((Clone|Copy|PartialEq|Eq)(, (Clone|Copy|PartialEq|Eq))*\)\]$'
+    # which conversion an `into` is only its types say; `B::from` says it
+    grep -HnE '\.(try_)?into\(' crates/*/src/*.rt
+    sed -n 's/^- \([^ ]*\) \(.*\)/\1: \2 is public, and its type is not/p' "$dir/public"
     grep -HnE 'no_mangle' crates/*/src/*.rt | grep -vE '^crates/boundary_c/src/[a-z]+\.rt:[0-9]+:#\[unsafe\(no_mangle\)\]$'
     grep -HnE '^ *pub mod ' crates/boundary_c/src/lib.rt
     find crates/*/src -mindepth 2 -name '*.rt'
@@ -85,53 +159,59 @@ rows() {
     awk -v section="## $1" '/^## / { at = $0 } at == section && /^\| `[a-z_]+::/' docs/PROMISES.md
 }
 
+# row_of FUNCTION: its row.
+row_of() {
+    grep -F "| \`$1\` |" docs/PROMISES.md
+}
+
 # The first cell of each row, without its quotes.
 named() {
     sed 's/^| `\([^`]*\)`.*/\1/' | sort
 }
 
-# Of each `pub fn`, from its head to the line that opens its body: file, name, how many ensures, requires and `&mut`, and its `ensures`
-# to the end.
-heads() {
-    for file in crates/*/src/*.rt; do
-        awk -v file="$file" '
-            /^ *pub (extern "C" )?fn / { on = 1; name = $0; sub(/^.*fn /, "", name); sub(/[<(].*/, "", name); e = 0; r = 0; m = 0; says = "" }
-            on && /^ *ensures[ *]/ { e++ }
-            on && /^ *requires[ *]/ { r++ }
-            on && e && !/^ *\{ *$/ { says = says $0 }
-            on { text = $0; m += gsub(/&(.[a-z]+ )?mut /, "", text) }
-            on && /\{ *$/ { print file, name, e, r, m, says; on = 0 }
-        ' "$file"
-    done
-}
-
 # head_of FUNCTION: its line of the heads.
 head_of() {
-    crate=${1%%::*}
-    name=${1##*::}
-    middle=${1#*::}
-    awk -v crate="$crate" -v name="$name" -v module="${middle%%::*}" '
-        index($1, "crates/" crate "/src/") == 1 && $2 == name && (module == name || $1 == "crates/" crate "/src/" module ".rt")
-    ' "$dir/heads"
+    awk -v path="$1" 'NR == FNR { if ($1 == path) of[$2 " " $3]; next } ($1 " " $2) in of' "$dir/public" "$dir/heads"
 }
 
-# Functions without one promise, with something asked of the caller, whose lemma sees fewer buffers than are lent to be written, or whose
-# promise does not cite the definitions of their row, which it has from where the row says, or is no equation.
+# lemma_of FUNCTION: the statement of the lemma that its row says it is determined by.
+lemma_of() {
+    cell=$(row_of "$1" | awk -F ' [|] ' '{ print $4 }' | tr -d '`')
+    name=${cell#*/}
+    cat "crates/${cell%%/*}/proofs/${name%%.*}.antt" 2> /dev/null | grep "^ *pub ${name#*.} :"
+}
+
+# over FUNCTION READS: its lemma's statement stands over that function's own promise, by the name under which the lemma's file has its reading.
+over() {
+    file=$(row_of "$1" | awk -F ' [|] ' '{ print $4 }' | sed -n 's|^`\([^/`]*\)/\([A-Za-z]*\)\..*|crates/\1/proofs/\2.antt|p')
+    reading=$(lemma_of "$1" | sed -n 's/.*[ (]\([a-z0-9-]*\)\.Post.*/\1/p')
+    [ -f "$file" ] && grep -qxF "use Rattle.${1%%::*}.proofs.$2.Reads as $reading" "$file"
+}
+
+# Functions without one promise, with something asked of the caller, whose lemma is of another function or sees fewer buffers than are lent to
+# be written, whose wrong programs stand in a file that does not have their promise, or whose promise does not cite the definitions of their
+# row, which it has from where the row says, or is no equation; of a row that says "written out" it is an equation with a record.
 unpromised() {
     while read -r function; do
-        row=$(grep -F "| \`$function\` |" docs/PROMISES.md)
-        lemma=$(printf '%s\n' "$row" | sed -n 's/.*\.\([a-z0-9_]*_determined\)`.*/\1/p')
-        seen=$(cat crates/"${function%%::*}"/proofs/*.antt | grep "^pub $lemma :" | grep -oE '[^A-Za-z0-9_.]s(\.[0-9]+)+\.now' | wc -l)
         head_of "$function" > "$dir/head"
         [ "$(wc -l < "$dir/head")" -eq 1 ] || echo "$function: $(wc -l < "$dir/head") heads"
+        seen=$(lemma_of "$function" | grep -oE '[^A-Za-z0-9_.]s(\.[0-9]+)+\.now' | wc -l)
         awk -v of="$function" -v seen="$seen" '
-            $3 != 1 || $4 != 0 { print of ": " $3 " ensures, " $4 " requires" }
-            $5 != seen + 0 { print of ": " $5 " buffers lent to be written, the lemma sees " seen }
-            $0 !~ /≡/ && of != "channels::bytes_fit" { print of ": no equation" }
+            $5 != 1 || $6 != 0 { print of ": " $5 " ensures, " $6 " requires" }
+            $7 != seen + 0 { print of ": " $7 " buffers lent to be written, the lemma sees " seen }
+            $0 !~ /≡/ { print of ": no equation" }
         ' "$dir/head"
-        cut -d ' ' -f 6- "$dir/head" > "$dir/says"
+        reads=$(cut -d ' ' -f 4 "$dir/head")
+        over "$function" "$reads" || echo "$function: its lemma is not over its promise"
+        for file in $(row_of "$function" | grep -oE '`[a-z0-9_]+/(Wrong[A-Za-z]*|Echoes)\.' | tr -d '`.' | sort -u); do
+            grep -q "^use Rattle.${function%%::*}.proofs.$reads.Reads as " "crates/${file%%/*}/proofs/${file#*/}.antt" 2> /dev/null ||
+                echo "$function: $file does not read its promise"
+        done
+        cut -d ' ' -f 8- "$dir/head" > "$dir/says"
         uses "$(cut -d ' ' -f 1 "$dir/head")" > "$dir/ghosts"
-        for definition in $(printf '%s\n' "$row" | awk -F ' [|] ' '{ print $3 }' | grep -oE '`[^`]+`' | tr -d '`'); do
+        cell=$(row_of "$function" | awk -F ' [|] ' '{ print $3 }')
+        case "$cell" in *'written out'*) grep -qF '{ result ≡ record { ' "$dir/says" || echo "$function: its promise is not written out" ;; esac
+        for definition in $(printf '%s\n' "$cell" | grep -oE '`[^`]+`' | tr -d '`'); do
             name=${definition#*/}
             case "$definition" in
                 */*) from=Rattle.${definition%%/*}.specs.${name%%.*}.${name#*.} ;;
@@ -140,16 +220,16 @@ unpromised() {
             grep -qE "[^A-Za-z0-9_]${name#*.}[^A-Za-z0-9_]" "$dir/says" && grep -qxF "ghost use $from" "$dir/ghosts" ||
                 echo "$function: its promise does not cite $definition"
         done
-    done < "$dir/public"
+    done < "$dir/paths"
 }
 
 # lacking SECTION WRONG: rows of seven cells that lack a definition, a lemma or a second wrong program, which is named in the cell WRONG by
-# the lemma or the edit that shuts it out; of `bytes_fit` none can be.
+# the lemma or the edit that shuts it out. In the place of a definition "written out" stands where the clause gives each part of a record.
 lacking() {
     rows "$1" | awk -F ' [|] ' -v wrong="$2" '
         { entry = $1; sub(/^[|] /, "", entry) }
         NF != 7 { print entry ": " NF " cells"; next }
-        $3 !~ /^`/ { print entry ": no definition" }
+        $3 !~ /^(`|written out)/ { print entry ": no definition" }
         $4 !~ /^`[a-z0-9_]+\/[A-Z][A-Za-z]*\.[a-z0-9_]+_determined`$/ { print entry ": no determinacy lemma" }
         {
             split("", shut); count = 0; text = $wrong
@@ -158,7 +238,7 @@ lacking() {
                 shut[substr(text, RSTART, RLENGTH)]; text = substr(text, RSTART + RLENGTH)
             }
         }
-        count < 2 && entry != "`channels::bytes_fit`" { print entry ": " count " wrong programs with a lemma or an edit" }
+        count < 2 { print entry ": " count " wrong programs with a lemma or an edit" }
     '
 }
 
@@ -170,7 +250,7 @@ leaving() {
         cell=$(printf '%s\n' "$row" | awk -F ' [|] ' '{ print $5 }')
         printf '%s\n' "$row" | grep -qE ' \| 1(, [23])* \|$' || echo "$function: no demand"
         case "$cell" in
-            'lent nothing to write') head_of "$function" | awk '$5 != 0 { print $2 ": is lent " $5 " to write" }' ;;
+            'lent nothing to write') head_of "$function" | awk '$7 != 0 { print $2 ": is lent " $7 " to write" }' ;;
             'refuses nothing') case "$function" in *run | *version) ;; *) echo "$function: refuses nothing?" ;; esac ;;
             *)
                 theorem=$(printf '%s\n' "$cell" | tr -d '`')
@@ -182,13 +262,14 @@ leaving() {
     done
 }
 
-# What the functions of the sources say, but for comments, clauses and `use`s; and what each source uses: crate and file before each line.
+# What the functions of the sources say, but for comments, attributes, clauses and `use`s; and what each source uses: crate and file before
+# each line.
 code() {
     for file in crates/*/src/*.rt; do
         crate=${file#crates/}
         awk -v at="${crate%%/*} $file" '
             /^ *(pub |ghost )*use / { on = 1 }
-            !on && !/^ *(ensures|requires)[ *]/ { sub(/\/\/.*/, ""); if ($0 ~ /[^ ]/) print at, $0 }
+            !on && !/^ *(ensures|requires)[ *]/ && !/^ *(ghost |#!?\[)/ { sub(/\/\/.*/, ""); if ($0 ~ /[^ ]/) print at, $0 }
             on && /;/ { on = 0 }
         ' "$file"
     done
@@ -201,20 +282,44 @@ used() {
     done
 }
 
-# callers FUNCTION: the other crates that call it, by its path, by that of its module, or by its name where they use it.
+# Where another's type is at hand by its own name, by a `use` of it or of the crate's `pub type`: crate, file, type with its path.
+at_hand() {
+    awk '$3 ~ /::[A-Z][A-Za-z0-9]*$/ && $3 !~ /^crate::/' "$dir/used"
+    sed -n 's/^\([^ ]*\) \([^ ]*\) pub type [A-Za-z0-9]* = \([a-z_:]*::[A-Za-z0-9]*\).*/\1 \2 \3/p' "$dir/code" | while read -r crate file type; do
+        echo "$crate $file $type"
+        awk -v crate="$crate" -v type="$type" -v named="crate::${type##*::}" '$1 == crate && $3 == named { print $1, $2, type }' "$dir/used"
+    done
+}
+
+# callers FUNCTION: the other crates that call it: by its path; a free one by that of its module, or by its name where they use it; one of a
+# type behind the type's name, where that is at hand, as that of a number is everywhere; one with a self behind a dot, whatever is before it.
 callers() {
     crate=${1%%::*}
     path=${1%::*}
     module=${path##*::}
     name=${1##*::}
+    what=$(head_of "$1" | cut -d ' ' -f 3)
+    awk -v crate="$crate" '$1 != crate' "$dir/code" > "$dir/others"
     {
-        awk -v crate="$crate" '$1 != crate' "$dir/code" | grep -E "[^a-z0-9_:]$1([^a-z0-9_]|\$)" | cut -d ' ' -f 1
-        awk -v crate="$crate" -v whole="$1" -v path="$path" '$1 != crate && ($3 == whole || $3 == path) { print $1, $2, $3 }' "$dir/used" |
-            while read -r other file what; do
-                called="$module::$name"
-                [ "$what" = "$path" ] || called=$name
-                grep -F "$other $file " "$dir/code" | grep -qE "[^a-z0-9_:.]$called\(" && echo "$other"
-            done
+        grep -E "[^A-Za-z0-9_:]$1([^A-Za-z0-9_]|\$)" "$dir/others" | cut -d ' ' -f 1
+        case "$what" in
+            free)
+                awk -v whole="$1" -v path="$path" '$3 == whole || $3 == path { print $1, $2, $3 }' "$dir/used" | while read -r other file used; do
+                    called="$module::$name"
+                    [ "$used" = "$path" ] || called=$name
+                    grep -F "$other $file " "$dir/others" | grep -qE "[^A-Za-z0-9_:.]$called\(|[(,] *$called[,)]" && echo "$other"
+                done
+                ;;
+            *)
+                case "$module" in
+                    [A-Z]*) awk -v type="$path" '$3 == type { print $1, $2 }' "$dir/at_hand" ;;
+                    *) cut -d ' ' -f 1,2 "$dir/others" | sort -u ;;
+                esac | while read -r other file; do
+                    grep -F "$other $file " "$dir/others" | grep -qE "[^A-Za-z0-9_:]$module::$name([^A-Za-z0-9_]|\$)" && echo "$other"
+                done
+                ;;
+        esac
+        [ "$what" != self ] || grep -E "\.$name\(|^[^ ]+ [^ ]+ +\.$name\(" "$dir/others" | cut -d ' ' -f 1
     } | sort -u | paste -sd, | sed 's/,/, /g'
 }
 
@@ -258,7 +363,7 @@ body() {
 exported() {
     grep -c . "$dir/exports" | grep -qx 0 && echo "no exports"
     rows Entries | named | sed -n 's/^boundary::/boundary_c::/p' | sort | comm -3 - "$dir/exports" | sed 's/^\t*/not both a row and an export: /'
-    sed -n 's/^boundary::/boundary_c::/p' "$dir/public" | comm -3 - "$dir/exports" | sed 's/^\t*/not both an entry and an export: /'
+    sed -n 's/^boundary::/boundary_c::/p' "$dir/paths" | comm -3 - "$dir/exports" | sed 's/^\t*/not both an entry and an export: /'
     while IFS= read -r export; do
         path=${export#*::}
         file=${path%%::*}.rt
@@ -300,10 +405,10 @@ defines() {
     awk -v word="$word" '
         /^ *--/ { next }
         {
-            n = 1; while ($n ~ /^(unfoldable|abbrev|pub|record|data|enum|struct|fn|const)$/) n++
+            n = 1; while ($n ~ /^(unfoldable|abbrev|pub|record|data|enum|struct|type|fn|const)$/) n++
             if (FILENAME ~ /\.rt$/) {
                 name = $n; sub(/[^A-Za-z0-9_].*/, "", name)
-                if (n > 1 && name == word && $(n - 1) ~ /^(enum|struct|fn|const)$/) hit = 1
+                if (n > 1 && name == word && $(n - 1) ~ /^(enum|struct|type|fn|const)$/) hit = 1
                 next
             }
             for (k = n; k <= NF && $k !~ /^[:({]/ && $k != "="; k++);
@@ -315,8 +420,8 @@ defines() {
 }
 
 # Names in backquotes: crate/File.name is defined in that crate's specs/ or proofs/; [crate/]name.edit is a must-fail edit, of the row's
-# own crate if none is named; file.txt:name is a corner of that file in second/corners/; a name after `second` or `boundary` is a function
-# of those tests.
+# own crate if none is named; crate::path is a public function, or a module, type or function that the crate has; file.txt:name is a corner
+# of that file in second/corners/; a name after `second` or `boundary` is a function of those tests.
 names() {
     grep -noE '`[a-z0-9_]+/[A-Z][A-Za-z0-9]*\.[^` ]+`' "$1" | while IFS=: read -r line name; do
         name=$(printf '%s\n' "$name" | tr -d '`')
@@ -337,6 +442,12 @@ names() {
             if (name !~ /\//) name = crate "/" name
             print FNR, name } }' "$1" | while read -r line name; do
         [ -f "crates/${name%%/*}/must-fail/${name#*/}" ] || echo "$1:$line: $name"
+    done
+    grep -noE '`[a-z_]+(::[A-Za-z0-9_]+)+`' "$1" | tr -d '`' | while IFS=: read -r line path; do
+        crate=${path%%:*}
+        word=${path##*:}
+        [ -d "crates/$crate/src" ] || continue
+        grep -qxF "$path" "$dir/paths" || grep -qxF "$path" "$dir/exports" || [ -f "crates/$crate/src/$word.rt" ] || echo "$1:$line: $path"
     done
     grep -noE '`[a-z]+\.txt:[a-z0-9-]+`' "$1" | tr -d '`' | while IFS=: read -r line file name; do
         grep -qx "corner $name" "second/corners/$file" || echo "$1:$line: $file:$name"
@@ -375,20 +486,24 @@ counts() {
     done
 }
 
-public > "$dir/public"
 heads > "$dir/heads"
+opened > "$dir/opened"
+types > "$dir/types"
+public > "$dir/public"
+sed -n 's/^\([^ -][^ ]*\) .*/\1/p' "$dir/public" | sort > "$dir/paths"
 code > "$dir/code"
 used > "$dir/used"
+at_hand > "$dir/at_hand"
 strange > "$dir/strange"
 check "ways to be public that this test does not understand" "$dir/strange"
 { rows Entries; rows 'Inner functions'; } | named > "$dir/rows"
-comm -23 "$dir/public" "$dir/rows" > "$dir/missing"
+comm -23 "$dir/paths" "$dir/rows" > "$dir/missing"
 check "public functions on no list" "$dir/missing"
-comm -13 "$dir/public" "$dir/rows" | uniq > "$dir/extra"
+comm -13 "$dir/paths" "$dir/rows" | uniq > "$dir/extra"
 uniq -d "$dir/rows" >> "$dir/extra"
 check "rows without a public function, or twice" "$dir/extra"
 unpromised > "$dir/unpromised"
-check "functions without one ensures, with a requires, with a buffer that the lemma does not see, or with another definition" "$dir/unpromised"
+check "functions without one ensures, with a requires, with another's lemmas or a buffer that they do not see, or with another definition" "$dir/unpromised"
 { lacking Entries 6; lacking 'Inner functions' 5; } > "$dir/lacking"
 check "rows that lack something" "$dir/lacking"
 leaving > "$dir/leaving"
@@ -404,7 +519,7 @@ exported > "$dir/exported"
 check "exports of the archive that are no entries, word for word" "$dir/exported"
 sentences > "$dir/sentences"
 check "the demands, and the sentences in the table" "$dir/sentences"
-for page in docs/PROMISES.md docs/READING.md docs/TRACE.md docs/DECISIONS.md docs/MAP.md docs/BOXES.md README.md; do
+for page in docs/PROMISES.md docs/READING.md docs/TRACE.md docs/DECISIONS.md docs/MAP.md docs/BOXES.md docs/CHECKS.md docs/PERFORMANCE.md README.md; do
     names "$page" > "$dir/names"
     check "names that don't exist" "$dir/names"
 done

@@ -3,15 +3,17 @@
 use Prim.Native.Nat.{ℕ}
 use mathlib.Core.Path.{◌≡◌, refl, ap, ◌∙◌}
 use mathlib.Core.Bool.{true}
-use mathlib.Core.Option.{Option, none, some, map}
+use mathlib.Core.Option as maybe
 use mathlib.Core.List.{List}
 use lib.ListN.{length}
+use Rattle.std.specs.Prelude.{Option, None, Some, Result, Ok, Err}
 use Rattle.ground.specs.Cell.{is_message}
-use Rattle.ground.specs.Choice.{when◌then◌else◌}
+use Rattle.ground.specs.Choice.{chosen}
 use Rattle.ground.proofs.Promise.{clash}
-use Rattle.wire.specs.Packet.{packet_read}
-use Rattle.wire.specs.declared.ReadHead.{ReadHead}
-use Rattle.wire.specs.declared.ReadHead.TheVariants as read_head
+use Rattle.ground.specs.declared.refusals.Refusal.{Refusal}
+use Rattle.wire.specs.Packet.{head_read, packet_read}
+use Rattle.wire.specs.declared.Head.{Head}
+use Rattle.wire.specs.declared.Packet.{Packet}
 use Rattle.rules.specs.Supply.{numbering}
 use Rattle.rules.specs.Letters as letters
 use Rattle.rules.specs.Letters.{Letter, line, letter, Asks, the_console, the_controller, neither_end, ConsoleAsk, ControllerAsk}
@@ -24,19 +26,17 @@ use Rattle.ends_controller.specs.Fields.{controller_ok}
 use Rattle.ends_console.specs.FieldsAsRules.{console_reads}
 use Rattle.ends_controller.specs.FieldsAsRules.{controller_means}
 use Rattle.ends.specs.AsRules.{for_console, for_controller}
-use Rattle.ends.specs.Packets.{head_for_console, head_for_controller, read_for_console, read_for_controller}
-use Rattle.ends.specs.declared.ForConsole.{ForConsole}
-use Rattle.ends.specs.declared.ForConsole.TheVariants as for-console
-use Rattle.ends.specs.declared.ForController.{ForController}
-use Rattle.ends.specs.declared.ForController.TheVariants as for-controller
+use Rattle.ends.specs.Packets.{head_for_console, head_for_controller, read_for_console}
+use Rattle.ends.specs.declared.ToConsole.{ToConsole}
+use Rattle.ends.specs.declared.ToController.{ToController}
 use Rattle.ends_console.specs.declared.fields.Console.{Console}
 use Rattle.ends_controller.specs.declared.fields.Controller.{Controller}
 use Rattle.alone.specs.AnyEnd.{lent}
 use Rattle.alone.specs.ConsoleAlone.{ConsoleAlone, console_refused, console_told, console_alone_acts, console_alone_takes, console_hears, console_asks, console_letter, console_alone}
-use Rattle.alone.specs.ControllerAlone.{ControllerAlone, controller_refused, controller_told, controller_alone_acts, controller_alone_takes, controller_head, controller_asks, controller_letter, controller_alone}
-use Rattle.alone.proofs.Calls.{console_heard, controller_heard_as}
+use Rattle.alone.specs.ControllerAlone.{ControllerAlone, controller_refused, controller_told, controller_alone_acts, controller_alone_takes, controller_hears, controller_asks, controller_letter, controller_alone}
+use Rattle.alone.proofs.Calls.{console_heard, packet_heard, controller_heard_as}
 
-no_packet : {A : Type 0} {B : Type 0} (q : A) → none ≡ some q → B
+no_packet : {A : Type 0} {B : Type 0} (q : A) → maybe.none ≡ maybe.some q → B
 no_packet q e = absurd (clash cc)
 
 module _ {S : Type 0} (b : Bench S (List ℕ)) (place : ℕ) (m packet reply : List ℕ) where
@@ -46,14 +46,14 @@ module _ {S : Type 0} (b : Bench S (List ℕ)) (place : ℕ) (m packet reply : L
   Lent (the_console letters.to_send_need_i) = length reply ≡ 32
   Lent (the_console letters.to_send_data) = length reply ≡ 32
   Lent (the_console ConsoleAsk.to_take) =
-      (length reply ≡ 32) × ((q : rules.ToConsole) × ((at b.to_console place ≡ some q) × (console_heard packet ≡ some q)))
+      (length reply ≡ 32) × ((q : rules.ToConsole) × ((at b.to_console place ≡ maybe.some q) × (console_heard packet ≡ maybe.some q)))
   Lent (the_console ConsoleAsk.to_go_down) = Unit {0}
   Lent (the_console ConsoleAsk.to_come_back) = Unit {0}
   Lent (the_console letters.to_tell_ack) = Unit {0}
   Lent (the_controller letters.to_send_offer) = length reply ≡ 32
   Lent (the_controller letters.to_send_ok) = length reply ≡ 32
   Lent (the_controller ControllerAsk.to_take) =
-      (length reply ≡ 32) × ((q : rules.ToController (List ℕ)) × ((at b.to_controller place ≡ some q) × (controller_heard_as packet ≡ some q)))
+      (length reply ≡ 32) × ((q : rules.ToController (List ℕ)) × ((at b.to_controller place ≡ maybe.some q) × (controller_heard_as packet ≡ maybe.some q)))
   Lent (the_controller ControllerAsk.to_go_down) = Unit {0}
   Lent (the_controller ControllerAsk.to_come_back) = Unit {0}
   Lent neither_end = Unit {0}
@@ -66,21 +66,21 @@ module _ {S : Type 0} (b : Bench S (List ℕ)) (place : ℕ) (m packet reply : L
     console_obeys (Asked.controller a) = console_refused 1 c reply
     console_obeys no_end = console_refused 1 c reply
 
-    console_takes : (f : ForConsole) (q : rules.ToConsole) → for_console f ≡ some q → console_alone_takes c reply f ≡ console_alone_acts c reply (rules.ConsoleAct.take (some q))
-    console_takes for-console.Nothing q e = no_packet q e
-    console_takes (for-console.Packet p) q e = ap (λ (o : Option rules.ToConsole). console_alone_acts c reply (rules.ConsoleAct.take o)) e
+    console_takes : (f : Option ToConsole) (q : rules.ToConsole) → for_console f ≡ maybe.some q → console_alone_takes c reply f ≡ console_alone_acts c reply (rules.ConsoleAct.take (maybe.some q))
+    console_takes None q e = no_packet q e
+    console_takes (Some p) q e = ap (λ (o : maybe.Option rules.ToConsole). console_alone_acts c reply (rules.ConsoleAct.take o)) e
 
-    console_hears_lem : (h : ReadHead) (q : rules.ToConsole) → for_console (read_for_console h) ≡ some q → console_hears c reply h ≡ console_alone_acts c reply (rules.ConsoleAct.take (some q))
-    console_hears_lem (read_head.Refused n) q e = no_packet q e
-    console_hears_lem (read_head.Is h) q e = console_takes (head_for_console h) q e
+    console_hears_lem : (h : Result Head Refusal) (q : rules.ToConsole) → for_console (read_for_console h) ≡ maybe.some q → console_hears c reply h ≡ console_alone_acts c reply (rules.ConsoleAct.take (maybe.some q))
+    console_hears_lem (Err r) q e = no_packet q e
+    console_hears_lem (Ok h) q e = console_takes (head_for_console h) q e
 
     console_asks_lem : (a : Asks) → Lent a → console_asks c reply m packet a ≡ console_obeys (asked_to a b place m)
-    unfolding console_alone_acts lent when◌then◌else◌
+    unfolding console_alone_acts lent chosen
     console_asks_lem (the_console letters.to_put) h = rw ok
     console_asks_lem (the_console letters.to_send_need_i) h = rw (ok, h)
     console_asks_lem (the_console letters.to_send_data) h = rw (ok, h)
     console_asks_lem (the_console ConsoleAsk.to_take) h =
-        rw (ok, h.0, h.1.1.0) (console_hears_lem (packet_read packet).head h.1.0 h.1.1.1)
+        rw (ok, h.0, h.1.1.0) (console_hears_lem (head_read packet) h.1.0 h.1.1.1)
     console_asks_lem (the_console ConsoleAsk.to_go_down) h = rw ok
     console_asks_lem (the_console ConsoleAsk.to_come_back) h = rw ok
     console_asks_lem (the_console letters.to_tell_ack) h = rw ok
@@ -94,7 +94,7 @@ module _ {S : Type 0} (b : Bench S (List ℕ)) (place : ℕ) (m packet reply : L
         controller_no ControllerAsk.to_come_back = refl
     console_asks_lem neither_end h = refl
 
-    pub console_obeys_lem : (byte : ℕ) (l : Letter) → letter byte ≡ some l → Lent (line l).asks → console_alone c byte m packet reply ≡ console_obeys (asks b l place m)
+    pub console_obeys_lem : (byte : ℕ) (l : Letter) → letter byte ≡ maybe.some l → Lent (line l).asks → console_alone c byte m packet reply ≡ console_obeys (asks b l place m)
     unfolding console_alone asks
     console_obeys_lem byte l e h = ap (console_letter c reply m packet) e ∙ console_asks_lem (line l).asks h
 
@@ -106,19 +106,17 @@ module _ {S : Type 0} (b : Bench S (List ℕ)) (place : ℕ) (m packet reply : L
     controller_obeys (Asked.controller a) = controller_told (rules.controller_step numbering (controller_means c) a) reply
     controller_obeys no_end = controller_refused 1 c reply
 
-    abbrev came : ForController → Option (rules.ToController (List ℕ))
-    came f = map (in_packet (λ _. (packet_read packet).message)) (for_controller f)
+    controller_takes : (m : List ℕ) (f : Option ToController) (q : rules.ToController (List ℕ)) → maybe.map (in_packet (λ _. m)) (for_controller f) ≡ maybe.some q
+        → controller_alone_takes c reply m f ≡ controller_alone_acts c reply (rules.ControllerAct.take (maybe.some q))
+    controller_takes m None q e = no_packet q e
+    controller_takes m (Some p) q e = ap (λ (o : maybe.Option (rules.ToController (List ℕ))). controller_alone_acts c reply (rules.ControllerAct.take o)) e
 
-    controller_takes : (f : ForController) (q : rules.ToController (List ℕ)) → came f ≡ some q → controller_alone_takes c reply (packet_read packet).message f ≡ controller_alone_acts c reply (rules.ControllerAct.take (some q))
-    controller_takes for-controller.Nothing q e = no_packet q e
-    controller_takes (for-controller.Packet p) q e = ap (λ (o : Option (rules.ToController (List ℕ))). controller_alone_acts c reply (rules.ControllerAct.take o)) e
-
-    controller_hears_lem : (h : ReadHead) (q : rules.ToController (List ℕ)) → came (read_for_controller h) ≡ some q → controller_head c reply (packet_read packet).message h ≡ controller_alone_acts c reply (rules.ControllerAct.take (some q))
-    controller_hears_lem (read_head.Refused n) q e = no_packet q e
-    controller_hears_lem (read_head.Is h) q e = controller_takes (head_for_controller h) q e
+    controller_hears_lem : (p : Result Packet Refusal) (q : rules.ToController (List ℕ)) → packet_heard p ≡ maybe.some q → controller_hears c reply p ≡ controller_alone_acts c reply (rules.ControllerAct.take (maybe.some q))
+    controller_hears_lem (Err r) q e = no_packet q e
+    controller_hears_lem (Ok p) q e = controller_takes p.message (head_for_controller p.head) q e
 
     controller_asks_lem : (a : Asks) → Lent a → controller_asks c reply packet a ≡ controller_obeys (asked_to a b place m)
-    unfolding controller_alone_acts lent when◌then◌else◌
+    unfolding controller_alone_acts lent chosen
     controller_asks_lem (the_console a) h = console_no a
       where
         console_no : (a : ConsoleAsk) → controller_refused 1 c reply ≡ controller_obeys (asked_to (the_console a) b place m)
@@ -132,11 +130,11 @@ module _ {S : Type 0} (b : Bench S (List ℕ)) (place : ℕ) (m packet reply : L
     controller_asks_lem (the_controller letters.to_send_offer) h = rw (ok, h)
     controller_asks_lem (the_controller letters.to_send_ok) h = rw (ok, h)
     controller_asks_lem (the_controller ControllerAsk.to_take) h =
-        rw (ok, h.0, h.1.1.0) (controller_hears_lem (packet_read packet).head h.1.0 h.1.1.1)
+        rw (ok, h.0, h.1.1.0) (controller_hears_lem (packet_read packet) h.1.0 h.1.1.1)
     controller_asks_lem (the_controller ControllerAsk.to_go_down) h = rw ok
     controller_asks_lem (the_controller ControllerAsk.to_come_back) h = rw ok
     controller_asks_lem neither_end h = refl
 
-    pub controller_obeys_lem : (byte : ℕ) (l : Letter) → letter byte ≡ some l → Lent (line l).asks → controller_alone c byte packet reply ≡ controller_obeys (asks b l place m)
+    pub controller_obeys_lem : (byte : ℕ) (l : Letter) → letter byte ≡ maybe.some l → Lent (line l).asks → controller_alone c byte packet reply ≡ controller_obeys (asks b l place m)
     unfolding controller_alone asks
     controller_obeys_lem byte l e h = ap (controller_letter c reply packet) e ∙ controller_asks_lem (line l).asks h

@@ -9,6 +9,7 @@ pub mod Determined
 pub mod Letters
 pub mod PowerLoss
 pub mod Refusals
-pub mod ReplyWritten
+pub mod Refusing
+pub mod Sent
 pub mod Vectors
 pub mod Wrong

@@ -7,7 +7,8 @@ use lib.ListN.{replicate}
 use Rattle.ground.specs.Cell.{cells, is_message, spaces}
 use Rattle.ground.specs.Every.{filled}
 use Rattle.wire.specs.Number.{bytes_of, value}
-use Rattle.wire.specs.Packet.{is_blank, packet_bytes, head_of, head_at, read_refusal, packet_read}
+use Rattle.ground.specs.Refusals.{refusal_of}
+use Rattle.wire.specs.Packet.{is_blank, packet_bytes, head_of, head_at, read_refusal, head_read}
 use Rattle.wire.specs.declared.Head.{Head}
 use Rattle.wire.specs.declared.Head.TheVariants.{NeedI, Offer, Data, Ok, Lost, Done}
 use Rattle.rules.specs.Supply.{numbers_rules}
@@ -33,11 +34,14 @@ use Rattle.alone.specs.ControllerAlone.{ControllerAlone, controller_alone_acts, 
 -- all that an example computes with
 unfoldable pub opened : Unit {0}
 unfolding console_alone console_ok console_mode console_alone_acts lent console_read_step said ack_after controller_alone controller_ok controller_mode controller_alone_acts rules.ends numbers_rules
-    packet_bytes packet_read read_refusal head_at head_of value bytes_of is_blank is_message cells filled line letters among letter
+    packet_bytes head_read read_refusal head_at head_of value bytes_of is_blank is_message cells filled line letters among letter
 opened = tt
 
 abbrev pub packet : Head → List ℕ → List ℕ
 packet h m = packet_bytes (record { head = h; message = m })
+
+abbrev refused_with : ℕ → Report
+refused_with n = report.Refused (refusal_of n)
 
 -- "START FILLER 03 "
 abbrev start : List ℕ
@@ -101,7 +105,7 @@ each_letter = refl
 
 -- P Q D S C V L M A, with a packet and a reply buffer that are good
 others : map (λ l. (controller_alone accepting l (packet (Offer (record { 0 = 1 }) (record { 0 = 3 })) zeros) room).outcome.report) (0x50 ∷ 0x51 ∷ 0x44 ∷ 0x53 ∷ 0x43 ∷ 0x56 ∷ 0x4C ∷ 0x4D ∷ 0x41 ∷ [])
-    ≡ replicate 9 (report.Refused 1)
+    ≡ replicate 9 (refused_with 1)
 unfolding opened
 others = refl
 
@@ -158,7 +162,7 @@ refused : map tells
     ∷ (accepting, 0x4B, [], room)
     ∷ (accepting, 0x52, packet (Data (record { 0 = 5 })) start, room)
     ∷ [])
-    ≡ map report.Refused (1 ∷ 1 ∷ 2 ∷ 12 ∷ 12 ∷ 13 ∷ 15 ∷ 4 ∷ 5 ∷ 6 ∷ 7 ∷ [])
+    ≡ map refused_with (1 ∷ 1 ∷ 2 ∷ 12 ∷ 12 ∷ 13 ∷ 15 ∷ 4 ∷ 5 ∷ 6 ∷ 7 ∷ [])
 unfolding opened
 refused = refl
 
@@ -236,7 +240,7 @@ ack_left = refl
 
 -- O K R X Y L M, with a message, a packet and a reply buffer that are good
 console_others : map (λ l. (console_alone sending l start (packet (Data (record { 0 = 3 })) start) room).outcome.report) (0x4F ∷ 0x4B ∷ 0x52 ∷ 0x58 ∷ 0x59 ∷ 0x4C ∷ 0x4D ∷ [])
-    ≡ replicate 7 (report.Refused 1)
+    ≡ replicate 7 (refused_with 1)
 unfolding opened
 console_others = refl
 
@@ -290,7 +294,7 @@ console_refused_lem : map console_tells
     ∷ (sending, 0x41, spaces, [], short)
     ∷ (sending_down, 0x41, spaces, [], short)
     ∷ [])
-    ≡ map report.Refused (1 ∷ 12 ∷ 12 ∷ 15 ∷ 11 ∷ 4 ∷ 5 ∷ 6 ∷ 6 ∷ 8 ∷ 4 ∷ 6 ∷ 4 ∷ [])
+    ≡ map refused_with (1 ∷ 12 ∷ 12 ∷ 15 ∷ 11 ∷ 4 ∷ 5 ∷ 6 ∷ 6 ∷ 8 ∷ 4 ∷ 6 ∷ 4 ∷ [])
 unfolding opened
 console_refused_lem = refl
 
@@ -325,6 +329,6 @@ after_v = refl
 -- a block of 0 or 1,025, and last used above reserved, are 2; blocks of 1 and 1,024 are good; last used below the largest is not spent
 ill_numbers : map (λ n. (console_alone (console_at n true) 0x50 spaces [] []).outcome.report)
     (in_block 3 64 0 ∷ in_block 3 64 1025 ∷ in_block 65 64 64 ∷ in_block 3 64 1 ∷ in_block 3 64 1024 ∷ in_block 4294967286 4294967295 64 ∷ [])
-    ≡ report.Refused 2 ∷ report.Refused 2 ∷ report.Refused 2 ∷ report.Nothing ∷ report.Nothing ∷ report.Nothing ∷ []
+    ≡ refused_with 2 ∷ refused_with 2 ∷ refused_with 2 ∷ report.Nothing ∷ report.Nothing ∷ report.Nothing ∷ []
 unfolding opened
 ill_numbers = refl

@@ -9,6 +9,8 @@ use contract.Lifetimes.{Lfts}
 use borrow.Fn.Kinds.{Dens, ended_of}
 use denote.Triple.Clauses.{AtExit}
 use Rattle.ground.specs.Cell.{spaces}
+use Rattle.ground.specs.declared.refusals.Refusal.{Refusal}
+use Rattle.ground.specs.declared.refusals.Refusal.TheVariants.{IllFormed, WrongMark}
 use Rattle.ground.proofs.Promise.{RulesOut, unequal}
 use Rattle.wire.specs.declared.Head.TheVariants.{Data, Lost, Done}
 use Rattle.numbers.specs.Numbers.{numbers_fresh}
@@ -30,8 +32,8 @@ use Rattle.alone.proofs.console.step.Reads as console-step
 use Rattle.alone.proofs.controller.step.Kinds as controller-step-kinds
 use Rattle.alone.proofs.controller.step.Reads as controller-step
 
-no_refusal : (n : ℕ) → report.Nothing ≡ report.Refused n → ⊥
-no_refusal n e = let z : ◌≡◌ {A = ℕ} 0 1 = cc in omega (arith, z)
+no_refusal : (q : Refusal) → report.Nothing ≡ report.Refused q → ⊥
+no_refusal q e = let z : ◌≡◌ {A = ℕ} 0 1 = cc in omega (arith, z)
 
 no_ok : report.Nothing ≡ report.Ok → ⊥
 no_ok e = let z : ◌≡◌ {A = ℕ} 0 1 = cc in omega (arith, z)
@@ -51,8 +53,8 @@ module _ (κs : Lfts 3) (a : Dens κs console-step-kinds.ps) (x : ConsoleOutcome
       ap (λ (r : ConsoleAlone). r.outcome)
       (meets ∙ (λ i. console_alone (fresh i) (puts i) (message i) a.1.1.1.0.now a.1.1.1.1.0.now) ∙ put_told a.1.1.1.0.now a.1.1.1.1.0.now)
 
-  pub console_always_refuses : (n : ℕ) → x.report ≡ report.Refused n → ⊥
-  console_always_refuses n e = no_refusal n (sym (ap (λ (o : ConsoleOutcome). o.report) put_so) ∙ e)
+  pub console_always_refuses : (q : Refusal) → x.report ≡ report.Refused q → ⊥
+  console_always_refuses q e = no_refusal q (sym (ap (λ (o : ConsoleOutcome). o.report) put_so) ∙ e)
 
   -- the put's success is no delivery
   pub console_always_ok : x.report ≡ report.Ok → ⊥
@@ -76,8 +78,8 @@ module _ (κs : Lfts 2) (a : Dens κs controller-step-kinds.ps) (x : ControllerO
       ap (λ (r : ControllerAlone). r.outcome)
       (meets ∙ (λ i. controller_alone (fresh i) (falls i) a.1.1.0.now a.1.1.1.0.now) ∙ down_told a.1.1.0.now a.1.1.1.0.now)
 
-  pub controller_always_refuses : (n : ℕ) → x.report ≡ report.Refused n → ⊥
-  controller_always_refuses n e = no_refusal n (sym (ap (λ (o : ControllerOutcome). o.report) down_so) ∙ e)
+  pub controller_always_refuses : (q : Refusal) → x.report ≡ report.Refused q → ⊥
+  controller_always_refuses q e = no_refusal q (sym (ap (λ (o : ControllerOutcome). o.report) down_so) ∙ e)
 
   pub controller_always_ok : x.report ≡ report.Ok → ⊥
   controller_always_ok e = no_ok (sym (ap (λ (o : ControllerOutcome). o.report) down_so) ∙ e)
@@ -106,7 +108,7 @@ console_does_not_look_at_the_reply_buffer κs a x s e w p = unequal (ap number_i
 abbrev some_data : List ℕ
 some_data = packet (Data (record { 0 = 3 })) spaces
 
-pub console_says_13_of_the_other_direction : RulesOut console-step-kinds.ps console-step-kinds.r console-step.Post (ConsoleGiven sending 0x53 some_data room) (λ κs a x s. x.report ≡ report.Refused 13)
+pub console_says_13_of_the_other_direction : RulesOut console-step-kinds.ps console-step-kinds.r console-step.Post (ConsoleGiven sending 0x53 some_data room) (λ κs a x s. x.report ≡ report.Refused WrongMark)
 unfolding opened
 console_says_13_of_the_other_direction κs a x s e w p = unequal (ap number_in (sym w ∙ console_says sending 0x53 some_data room κs a x s e p)) refl
 
@@ -114,7 +116,7 @@ console_says_13_of_the_other_direction κs a x s e w p = unequal (ap number_in (
 abbrev no_console : Console
 no_console = record { numbers = numbers_fresh 1; held = true; message = spaces; j = record { 0 = 0 }; last = record { 0 = 0 }; up = true; ack = false }
 
-pub console_says_2_before_1 : RulesOut console-step-kinds.ps console-step-kinds.r console-step.Post (ConsoleGiven no_console 0x52 some_data room) (λ κs a x s. x.report ≡ report.Refused 2)
+pub console_says_2_before_1 : RulesOut console-step-kinds.ps console-step-kinds.r console-step.Post (ConsoleGiven no_console 0x52 some_data room) (λ κs a x s. x.report ≡ report.Refused IllFormed)
 unfolding opened
 console_says_2_before_1 κs a x s e w p = unequal (ap number_in (sym w ∙ console_says no_console 0x52 some_data room κs a x s e p)) refl
 
@@ -136,11 +138,11 @@ unfolding opened
 controller_does_not_look_at_the_reply_buffer κs a x s e w p = unequal (ap number_in (sym w ∙ controller_says accepting 0x52 old_done short κs a x s e p)) refl
 
 -- R of a lost
-pub controller_says_13_of_the_other_direction : RulesOut controller-step-kinds.ps controller-step-kinds.r controller-step.Post (ControllerGiven accepting 0x52 old_lost room) (λ κs a x s. x.report ≡ report.Refused 13)
+pub controller_says_13_of_the_other_direction : RulesOut controller-step-kinds.ps controller-step-kinds.r controller-step.Post (ControllerGiven accepting 0x52 old_lost room) (λ κs a x s. x.report ≡ report.Refused WrongMark)
 unfolding opened
 controller_says_13_of_the_other_direction κs a x s e w p = unequal (ap number_in (sym w ∙ controller_says accepting 0x52 old_lost room κs a x s e p)) refl
 
 -- asked P
-pub controller_says_2_before_1 : RulesOut controller-step-kinds.ps controller-step-kinds.r controller-step.Post (ControllerGiven ill_formed 0x50 old_done room) (λ κs a x s. x.report ≡ report.Refused 2)
+pub controller_says_2_before_1 : RulesOut controller-step-kinds.ps controller-step-kinds.r controller-step.Post (ControllerGiven ill_formed 0x50 old_done room) (λ κs a x s. x.report ≡ report.Refused IllFormed)
 unfolding opened
 controller_says_2_before_1 κs a x s e w p = unequal (ap number_in (sym w ∙ controller_says ill_formed 0x50 old_done room κs a x s e p)) refl

@@ -1,19 +1,18 @@
 -- An end run alone, wherever its numbers come from: what is refused before its rules are asked, refusal by refusal in document 01's order. Assumes nothing.
-use Rattle.std.specs.Prelude.{ℕ, Bool, List, eqb}
-use Rattle.std.proofs.Math.Option.{Option, none, some}
+use Rattle.std.specs.Prelude.{ℕ, Bool, List, eqb, Option, None, Some, Result, Ok, Err}
+use Rattle.std.proofs.Math.Option as maybe
 use Rattle.ground.specs.Choice.{when◌then◌else◌}
-use Rattle.wire.specs.declared.ReadHead.{ReadHead}
-use Rattle.wire.specs.declared.ReadHead.TheVariants as read_head
-use Rattle.wire.specs.declared.ReadPacket.{ReadPacket}
+use Rattle.ground.specs.Refusals.{number_of}
+use Rattle.ground.specs.declared.refusals.Refusal.{Refusal}
+use Rattle.wire.specs.declared.Head.{Head}
+use Rattle.wire.specs.declared.Packet.{Packet}
 use Rattle.rules.specs.Letters.{Letter, line, Asks, the_console, the_controller, neither_end, ConsoleAsk, to_put, to_send_need_i, to_send_data, to_tell_ack, ControllerAsk, to_send_offer, to_send_ok}
 use Rattle.rules.specs.Ends as rules
 use Rattle.rules.specs.Relabel.{in_packet}
 use Rattle.ends.specs.Packets.{head_for_console, head_for_controller}
 use Rattle.ends.specs.AsRules.{to_console, to_controller}
-use Rattle.ends.specs.declared.ForConsole.{ForConsole}
-use Rattle.ends.specs.declared.ForConsole.TheVariants as for-console
-use Rattle.ends.specs.declared.ForController.{ForController}
-use Rattle.ends.specs.declared.ForController.TheVariants as for-controller
+use Rattle.ends.specs.declared.ToConsole.{ToConsole}
+use Rattle.ends.specs.declared.ToController.{ToController}
 
 -- R is what a step tells and leaves, `refused` that of a refusal
 module _ {R : Type 0} (refused : ℕ → R) where
@@ -25,16 +24,16 @@ module _ {R : Type 0} (refused : ℕ → R) where
 
   module _ (acts : rules.ConsoleAct (List ℕ) → R) where
     -- a packet in whose kind goes the other way is 15
-    abbrev pub any_console_takes : ForConsole → R
-    any_console_takes for-console.Nothing = refused 15
-    any_console_takes (for-console.Packet p) = acts (rules.ConsoleAct.take (some (to_console p)))
+    abbrev pub any_console_takes : Option ToConsole → R
+    any_console_takes None = refused 15
+    any_console_takes (Some p) = acts (rules.ConsoleAct.take (maybe.some (to_console p)))
 
     -- 12 to 15 of the packet in, as it was read
-    abbrev pub any_console_hears : ReadHead → R
-    any_console_hears (read_head.Refused n) = refused n
-    any_console_hears (read_head.Is h) = any_console_takes (head_for_console h)
+    abbrev pub any_console_hears : Result Head Refusal → R
+    any_console_hears (Err r) = refused (number_of r)
+    any_console_hears (Ok h) = any_console_takes (head_for_console h)
 
-    module _ (message : List ℕ) (came : ReadHead) (long : ℕ) where
+    module _ (message : List ℕ) (came : Result Head Refusal) (long : ℕ) where
       -- Q D S are lent the reply buffer, S takes the packet in
       abbrev pub any_console_asked : ConsoleAsk → R
       any_console_asked to_put = acts (rules.put message)
@@ -53,28 +52,25 @@ module _ {R : Type 0} (refused : ℕ → R) where
         any_console_asks neither_end = refused 1
 
         -- 1: no action has this letter
-        abbrev pub any_console_letter : Option Letter → R
-        any_console_letter none = refused 1
-        any_console_letter (some l) = any_console_asks (line l).asks
+        abbrev pub any_console_letter : maybe.Option Letter → R
+        any_console_letter maybe.none = refused 1
+        any_console_letter (maybe.some l) = any_console_asks (line l).asks
 
   -- ## A controller
 
   module _ (acts : rules.ControllerAct (List ℕ) → R) where
     -- a packet in whose kind goes the other way is 15; the message is data's
-    abbrev pub any_controller_takes : List ℕ → ForController → R
-    any_controller_takes message for-controller.Nothing = refused 15
-    any_controller_takes message (for-controller.Packet p) =
-        acts (rules.ControllerAct.take (some (in_packet (λ _. message) (to_controller p))))
+    abbrev pub any_controller_takes : List ℕ → Option ToController → R
+    any_controller_takes message None = refused 15
+    any_controller_takes message (Some p) =
+        acts (rules.ControllerAct.take (maybe.some (in_packet (λ _. message) (to_controller p))))
 
     -- 12 to 15 of the packet in, as it was read
-    abbrev pub any_controller_head : List ℕ → ReadHead → R
-    any_controller_head message (read_head.Refused n) = refused n
-    any_controller_head message (read_head.Is h) = any_controller_takes message (head_for_controller h)
+    abbrev pub any_controller_hears : Result Packet Refusal → R
+    any_controller_hears (Err r) = refused (number_of r)
+    any_controller_hears (Ok p) = any_controller_takes p.message (head_for_controller p.head)
 
-    abbrev pub any_controller_hears : ReadPacket → R
-    any_controller_hears p = any_controller_head p.message p.head
-
-    module _ (came : ReadPacket) (long : ℕ) where
+    module _ (came : Result Packet Refusal) (long : ℕ) where
       -- O K R are lent the reply buffer, R takes the packet in
       abbrev pub any_controller_asked : ControllerAsk → R
       any_controller_asked to_send_offer = lent long (acts rules.send_offer)
@@ -91,6 +87,6 @@ module _ {R : Type 0} (refused : ℕ → R) where
         any_controller_asks neither_end = refused 1
 
         -- 1: no action has this letter
-        abbrev pub any_controller_letter : Option Letter → R
-        any_controller_letter none = refused 1
-        any_controller_letter (some l) = any_controller_asks (line l).asks
+        abbrev pub any_controller_letter : maybe.Option Letter → R
+        any_controller_letter maybe.none = refused 1
+        any_controller_letter (maybe.some l) = any_controller_asks (line l).asks

@@ -1,9 +1,11 @@
 -- A console run alone: what it tells, and what stands in the reply buffer afterwards. Assumes nothing.
-use Rattle.std.specs.Prelude.{ℕ, false, not, List, length}
-use Rattle.std.proofs.Math.Option.{Option, map}
+use Rattle.std.specs.Prelude.{ℕ, false, not, List, length, Option, Result}
+use Rattle.std.proofs.Math.Option as maybe
 use Rattle.ground.specs.Cell.{is_message}
-use Rattle.wire.specs.Packet.{packet_read}
-use Rattle.wire.specs.declared.ReadHead.{ReadHead}
+use Rattle.ground.specs.Refusals.{refusal_of}
+use Rattle.ground.specs.declared.refusals.Refusal.{Refusal}
+use Rattle.wire.specs.Packet.{head_read}
+use Rattle.wire.specs.declared.Head.{Head}
 use Rattle.rules.specs.Supply.{numbering, Numbers}
 use Rattle.rules.specs.Letters.{Letter, letter, Asks, ConsoleAsk}
 use Rattle.rules.specs.Ends as rules
@@ -12,7 +14,7 @@ use Rattle.ends.specs.Packets.{to_controller_packet}
 use Rattle.ends.specs.AsRules.{report_back}
 use Rattle.ends_console.specs.Fields.{console_ok}
 use Rattle.ends_console.specs.FieldsAsRules.{console_reads, console_back}
-use Rattle.ends.specs.declared.ForConsole.{ForConsole}
+use Rattle.ends.specs.declared.ToConsole.{ToConsole}
 use Rattle.ends.specs.declared.Report.TheVariants as report
 use Rattle.ends_console.specs.declared.fields.Console.{Console}
 use Rattle.alone.specs.Alone.{replied}
@@ -25,14 +27,14 @@ pub record ConsoleAlone : Type 0 where
 
 -- a refusal leaves the console and the reply buffer
 abbrev pub console_refused : ℕ → Console → List ℕ → ConsoleAlone
-console_refused n c reply = record { outcome = record { report = report.Refused n; sent = false; console = c }; reply = reply }
+console_refused n c reply = record { outcome = record { report = report.Refused (refusal_of n); sent = false; console = c }; reply = reply }
 
 abbrev pub console_told : ReadActed Numbers (List ℕ) → List ℕ → ConsoleAlone
 console_told d reply =
     record {
       outcome =
           record { report = report_back d.told.report; sent = not (rules.absent d.sent); console = console_back d.told.after };
-      reply = replied (map to_controller_packet d.sent) reply;
+      reply = replied (maybe.map to_controller_packet d.sent) reply;
     }
 
 module _ (c : Console) (reply : List ℕ) where
@@ -44,10 +46,10 @@ module _ (c : Console) (reply : List ℕ) where
   abbrev refuses : ℕ → ConsoleAlone
   refuses n = console_refused n c reply
 
-  abbrev pub console_alone_takes : ForConsole → ConsoleAlone
+  abbrev pub console_alone_takes : Option ToConsole → ConsoleAlone
   console_alone_takes p = any_console_takes refuses console_alone_acts p
 
-  abbrev pub console_hears : ReadHead → ConsoleAlone
+  abbrev pub console_hears : Result Head Refusal → ConsoleAlone
   console_hears h = any_console_hears refuses console_alone_acts h
 
   abbrev pub console_lent : ConsoleAlone → ConsoleAlone
@@ -55,13 +57,13 @@ module _ (c : Console) (reply : List ℕ) where
 
   module _ (message packet : List ℕ) where
     abbrev pub console_asked : ConsoleAsk → ConsoleAlone
-    console_asked ask = any_console_asked refuses console_alone_acts message (packet_read packet).head (length reply) ask
+    console_asked ask = any_console_asked refuses console_alone_acts message (head_read packet) (length reply) ask
 
     abbrev pub console_asks : Asks → ConsoleAlone
-    console_asks asks = any_console_asks refuses console_alone_acts message (packet_read packet).head (length reply) (console_ok c) asks
+    console_asks asks = any_console_asks refuses console_alone_acts message (head_read packet) (length reply) (console_ok c) asks
 
-    abbrev pub console_letter : Option Letter → ConsoleAlone
-    console_letter l = any_console_letter refuses console_alone_acts message (packet_read packet).head (length reply) (console_ok c) l
+    abbrev pub console_letter : maybe.Option Letter → ConsoleAlone
+    console_letter l = any_console_letter refuses console_alone_acts message (head_read packet) (length reply) (console_ok c) l
 
 unfoldable pub console_alone : Console → ℕ → List ℕ → List ℕ → List ℕ → ConsoleAlone
 console_alone c l message packet reply = console_letter c reply message packet (letter l)

@@ -4,3 +4,4 @@ pub mod ConsoleAlone
 pub mod ConsolePrivate
 pub mod ControllerAlone
 pub mod ControllerPrivate
+pub mod Private

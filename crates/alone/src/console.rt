@@ -1,26 +1,29 @@
 // A console run alone.
-ghost use Rattle.std.specs.Prelude.{◌≡◌, not, true, false, List, ℕ, length};
-ghost use Rattle.wire.specs.Packet.{numbered, packet_read};
-ghost use Rattle.rules.specs.Ends.{absent, put, tell_ack, ConsoleAct};
-ghost use Rattle.rules.specs.Reading.{leaves};
-ghost use Rattle.letters.specs.Lines.{console_ask_means};
+ghost use Rattle.std.specs.Prelude.{◌≡◌, true, false, Some, IfOk, length};
+ghost use Rattle.ground.specs.Cell.{is_message};
+ghost use Rattle.wire.specs.Packet.{head_read};
+ghost use Rattle.rules.specs.Ends.{put, tell_ack, ConsoleAct};
+ghost use Rattle.rules.specs.Letters.{letter};
+ghost use Rattle.letters.specs.Lines.{console_ask_means, found_of};
+ghost use Rattle.ends.specs.AsRules.{for_console};
+ghost use Rattle.ends.specs.Packets.{to_controller_sent};
 ghost use Rattle.ends_console.specs.Ack.{use_means};
-ghost use Rattle.ends_console.specs.Fields.{console_read};
-ghost use Rattle.ends.specs.AsRules.{for_controller};
-ghost use Rattle.ends.specs.Packets.{head_for_console, to_controller_sent};
-ghost use Rattle.alone.specs.Alone.{Writable, replied};
-ghost use Rattle.alone.specs.ConsoleAlone.{console_alone_acts, console_alone_takes, console_hears, console_lent, console_asked, console_alone};
-ghost use Rattle.alone.specs.ConsolePrivate.{console_done, console_tells, console_sends};
+ghost use Rattle.alone.specs.Alone.{Writable};
+ghost use Rattle.alone.specs.AnyEnd.{lent};
+ghost use Rattle.alone.specs.ConsoleAlone.{console_alone};
+ghost use Rattle.alone.specs.ConsolePrivate.{console_act, console_heard, console_does, message_kept, console_tells, console_ask_in, console_answer};
+ghost use Rattle.alone.specs.Private.{refuses};
 
+use crate::{send, sends};
 use ends::packets::{for_console, to_controller};
-use ends::{ForConsole, ForController, Report};
-use ends_console::ack::{AckUse, shows};
-use ends_console::fields::{Console, ConsoleRead, console_of, read_console};
-use ends_console::refusals::{ack_refusal, send_refusal};
+use ends::{Report, ToConsole};
+use ends_console::ack::{AckUse, ack_use, shows};
+use ends_console::fields::{Console, console_of, read_console};
+use ends_console::refusals::ack_refusal;
 use ends_console::turns::{data_sent, needi_sent};
 use ends_console::{Acted, End, acts};
-use letters::{Asks, ConsoleAsk, Found};
-use wire::{Head, ReadHead};
+use ground::Refusal;
+use letters::{Asks, ConsoleAsk};
 
 #[derive(Clone, Copy)]
 pub struct ConsoleOutcome {
@@ -29,212 +32,144 @@ pub struct ConsoleOutcome {
     pub console: Console,
 }
 
-fn refused(n: u8, c: Console) -> ConsoleOutcome
-    ensures { result ≡ record { report = Report.Refused n; sent = false; console = c } }
+// P.
+#[tactic(auto, unfolding(crate::specs::ConsolePrivate::console_act))]
+fn puts(e: End, message: &[u8; 16]) -> Result<Acted, Refusal>
+    ensures { result ≡ console_act e (is_message message.now) (put tt) }
 {
-    ConsoleOutcome {
-        report: Report::Refused(n),
-        sent: false,
-        console: c,
-    }
+    acts::put_refusal(e, ground::is_message(message))?;
+    Ok(acts::puts(e))
 }
 
-// Writes what is sent, and tells whether anything is.
-fn send(sent: ForController, message: [u8; 16], reply: &mut [u8]) -> bool
-    requires { Writable (to_controller_sent sent message) (length reply.old) }
-    ensures { (result ≡ not (absent (for_controller sent))) × (reply.new ≡ replied (to_controller_sent sent message) reply.old) }
+// S of a packet that is for it.
+#[tactic(auto, unfolding(crate::specs::ConsolePrivate::console_act, rules::specs::Ends::ends))]
+fn hears(e: End, came: ToConsole) -> Result<Acted, Refusal>
+    ensures { result ≡ console_act e true (ConsoleAct.take (for_console (Some came))) }
 {
-    match sent {
-        ForController::Nothing => false,
-        ForController::Packet(p) => {
-            let packet = to_controller(p, message);
-            wire::write_packet(reply, packet);
-            true
-        }
+    if !e.up {
+        return Err(Refusal::IsDown);
     }
+    Ok(acts::takes_what_came(e, Some(came)))
 }
 
-// What was done by an act that sends nothing; the console then holds `message`, if it holds one, and its ack is what the act leaves of `ack`.
-fn done(acted: Acted, u: AckUse, ack: bool, message: [u8; 16]) -> ConsoleOutcome
-    ensures { result ≡ console_done acted (use_means u) ack message }
-{
-    let report = acted.report;
-    let end = acted.after;
-    let shown = shows(u, ack, report);
-    let report = shown.report;
-    ConsoleOutcome {
-        report,
-        sent: false,
-        console: console_of(end, shown.ack, message),
-    }
-}
-
-// The same of S, which may send: that is written.
-fn replies(acted: Acted, ack: bool, message: [u8; 16], reply: &mut [u8]) -> ConsoleOutcome
-    requires { Writable (to_controller_sent acted.sent message) (length reply.old) }
-    ensures { record { outcome = result; reply = reply.new } ≡ console_tells acted leaves ack message reply.old }
-{
-    let report = acted.report;
-    let sent = acted.sent;
-    let end = acted.after;
-    let written = send(sent, message, reply);
-    let shown = shows(AckUse::Leaves, ack, report);
-    let report = shown.report;
-    ConsoleOutcome {
-        report,
-        sent: written,
-        console: console_of(end, shown.ack, message),
-    }
-}
-
-fn puts(c: Console, e: End, message: &[u8; 16]) -> ConsoleOutcome
-    requires c_value { console_read c ≡ ConsoleRead.Is e }
-    requires message_len { length c.message ≡ 16 }
-    ensures { (reply : List ℕ) → record { outcome = result; reply = reply } ≡ console_alone_acts c reply (put message.now) }
-{
-    let good = ground::is_message(message);
-    let n = acts::put_refusal(e, good);
-    if n != 0 {
-        return refused(n, c);
-    }
-    done(acts::puts(e), AckUse::Leaves, c.ack, *message)
-}
-
-// Q and D. They are lent the reply buffer, and change nothing of the console.
-fn sends(c: Console, e: End, sent: ForController, reply: &mut [u8]) -> ConsoleOutcome
-    requires { Writable (to_controller_sent sent c.message) 32 }
-    ensures { record { outcome = result; reply = reply.new } ≡ console_lent c reply.old (console_sends c e.up sent reply.old) }
+// S. It is lent the reply buffer, whose length is looked at even with nothing to send. A packet in whose kind goes the other way is 15.
+#[tactic(auto, unfolding(crate::specs::AnyEnd::lent, ground::specs::Choice::chosen))]
+fn takes(e: End, packet: &[u8], reply: &[u8]) -> Result<Acted, Refusal>
+    ensures { result ≡ lent refuses (length reply.now) (console_heard e (head_read packet.now)) }
 {
     if reply.len() != 32 {
-        return refused(12, c);
+        return Err(Refusal::WrongLength);
     }
-    let n = send_refusal(e.up, sent);
-    if n != 0 {
-        return refused(n, c);
-    }
-    let held = c.message;
-    let written = send(sent, held, reply);
-    ConsoleOutcome {
-        report: Report::Nothing,
-        sent: written,
-        console: c,
-    }
+    let head = wire::read_head(packet)?;
+    let came = for_console(head).ok_or(Refusal::WrongField)?;
+    hears(e, came)
 }
 
-// A packet in whose kind goes the other way is 15.
-fn hears(c: Console, e: End, head: Head, reply: &mut [u8]) -> ConsoleOutcome
-    requires c_value { console_read c ≡ ConsoleRead.Is e }
-    requires message_len { length c.message ≡ 16 }
-    requires head_value { numbered head ≡ true }
-    requires reply_len { length reply.old ≡ 32 }
-    ensures { record { outcome = result; reply = reply.new } ≡ console_alone_takes c reply.old (head_for_console head) }
-{
-    let came = for_console(head);
-    match came {
-        ForConsole::Nothing => refused(15, c),
-        ForConsole::Packet(p) => {
-            if e.up {
-                let held = c.message;
-                replies(
-                    acts::takes_what_came(e, ForConsole::Packet(p)),
-                    c.ack,
-                    held,
-                    reply,
-                )
-            } else {
-                refused(4, c)
-            }
-        }
-    }
-}
-
-// S is lent the reply buffer: its length is looked at even with nothing to send.
-fn takes(c: Console, e: End, packet: &[u8], reply: &mut [u8]) -> ConsoleOutcome
-    requires c_value { console_read c ≡ ConsoleRead.Is e }
-    requires message_len { length c.message ≡ 16 }
-    ensures { record { outcome = result; reply = reply.new } ≡ console_lent c reply.old (console_hears c reply.old (packet_read packet.now).head) }
-{
-    if reply.len() != 32 {
-        return refused(12, c);
-    }
-    let head = wire::read_head(packet);
-    match head {
-        ReadHead::Refused(n) => refused(n, c),
-        ReadHead::Is(h) => hears(c, e, h, reply),
-    }
-}
-
-fn goes_down(c: Console, e: End) -> ConsoleOutcome
-    requires c_value { console_read c ≡ ConsoleRead.Is e }
-    requires message_len { length c.message ≡ 16 }
-    ensures { (reply : List ℕ) → record { outcome = result; reply = reply } ≡ console_alone_acts c reply ConsoleAct.go_down }
-{
-    let held = c.message;
-    done(acts::goes_down(e), AckUse::Leaves, c.ack, held)
-}
-
-fn comes_back(c: Console, e: End) -> ConsoleOutcome
-    requires c_value { console_read c ≡ ConsoleRead.Is e }
-    requires message_len { length c.message ≡ 16 }
-    ensures { (reply : List ℕ) → record { outcome = result; reply = reply } ≡ console_alone_acts c reply ConsoleAct.come_back }
+// V. Its refusal and Y's are alike; what each brings back is its own.
+#[tactic(auto, unfolding(crate::specs::ConsolePrivate::console_act, rules::specs::Ends::ends))]
+fn comes_back(e: End) -> Result<Acted, Refusal>
+    ensures { result ≡ console_act e true ConsoleAct.come_back }
 {
     if e.up {
-        return refused(5, c);
+        return Err(Refusal::IsUp);
     }
-    let held = c.message;
-    done(acts::comes_back(e), AckUse::Clears, c.ack, held)
+    Ok(acts::comes_back(e))
 }
 
-// A changes nothing but the ack.
-fn tells(c: Console, e: End) -> ConsoleOutcome
-    requires c_value { console_read c ≡ ConsoleRead.Is e }
-    requires message_len { length c.message ≡ 16 }
-    ensures { (reply : List ℕ) → record { outcome = result; reply = reply } ≡ console_alone_acts c reply tell_ack }
+// A. It changes nothing but the ack.
+#[tactic(auto, using(ends_console::proofs::ActsDone::same_mode), unfolding(crate::specs::ConsolePrivate::console_act, rules::specs::Ends::ends))]
+fn tells(e: End) -> Result<Acted, Refusal>
+    ensures { result ≡ console_act e true tell_ack }
 {
-    let mode = e.mode;
-    let n = ack_refusal(mode, e.up);
-    if n != 0 {
-        return refused(n, c);
-    }
-    let shown = shows(AckUse::Tells, c.ack, Report::Nothing);
-    let report = shown.report;
-    let mut after = c;
-    after.ack = shown.ack;
-    ConsoleOutcome {
-        report,
-        sent: false,
-        console: after,
-    }
+    ack_refusal(e.mode, e.up)?;
+    Ok(Acted {
+        report: Report::Nothing,
+        sent: None,
+        after: e,
+    })
 }
 
-// What a console's type says of its message; there is nothing to run.
-fn sixteen(c: Console)
-    ensures { length c.message ≡ 16 }
-{}
-
-// What a well-formed console is asked.
+// What a well-formed console does that is asked. A match on an enum: each arm is handed what its act needs, and no more.
+#[tactic(auto, using(crate::proofs::ConsoleAlone::asking))]
 fn does(
-    c: Console,
     e: End,
     ask: ConsoleAsk,
     message: &[u8; 16],
     packet: &[u8],
-    reply: &mut [u8],
-) -> ConsoleOutcome
-    requires { console_read c ≡ ConsoleRead.Is e }
-    ensures { record { outcome = result; reply = reply.new } ≡ console_asked c reply.old message.now packet.now (console_ask_means ask) }
+    reply: &[u8],
+) -> Result<Acted, Refusal>
+    ensures { result ≡ console_does e message.now packet.now (length reply.now) (console_ask_means ask) }
 {
-    sixteen(c);
-    let mode = e.mode;
     match ask {
-        ConsoleAsk::Put => puts(c, e, message),
-        ConsoleAsk::SendNeedI => sends(c, e, needi_sent(mode), reply),
-        ConsoleAsk::SendData => sends(c, e, data_sent(mode), reply),
-        ConsoleAsk::Take => takes(c, e, packet, reply),
-        ConsoleAsk::GoDown => goes_down(c, e),
-        ConsoleAsk::ComeBack => comes_back(c, e),
-        ConsoleAsk::TellAck => tells(c, e),
+        ConsoleAsk::Put => puts(e, message),
+        ConsoleAsk::SendNeedI => sends(e, needi_sent(e.mode), reply),
+        ConsoleAsk::SendData => sends(e, data_sent(e.mode), reply),
+        ConsoleAsk::Take => takes(e, packet, reply),
+        ConsoleAsk::GoDown => Ok(acts::goes_down(e)),
+        ConsoleAsk::ComeBack => comes_back(e),
+        ConsoleAsk::TellAck => tells(e),
     }
+}
+
+// The message that is held then, if one is: the put one is kept.
+fn message_kept(ask: ConsoleAsk, message: &[u8; 16], held: [u8; 16]) -> [u8; 16]
+    ensures { result ≡ message_kept (console_ask_means ask) message.now held }
+{
+    match ask {
+        ConsoleAsk::Put => *message,
+        _ => held,
+    }
+}
+
+// What was done is told, and what it sends is written. The console then holds `message`, if it holds one, and its ack is what the act leaves of `ack`.
+#[tactic(auto, unfolding(crate::specs::ConsolePrivate::console_tells, ends::specs::Packets::to_controller_sent))]
+fn told(acted: Acted, u: AckUse, ack: bool, message: [u8; 16], reply: &mut [u8]) -> ConsoleOutcome
+    requires { Writable (to_controller_sent acted.sent message) (length reply.old) }
+    ensures { record { outcome = result; reply = reply.new } ≡ console_tells acted (use_means u) ack message reply.old }
+{
+    let shown = shows(u, ack, acted.report);
+    ConsoleOutcome {
+        report: shown.report,
+        sent: send(acted.sent.map(|p| to_controller(p, message)), reply),
+        console: console_of(acted.after, shown.ack, message),
+    }
+}
+
+fn refused(refusal: Refusal, c: Console) -> ConsoleOutcome
+    ensures { result ≡ record { report = Report.Refused refusal; sent = false; console = c } }
+{
+    ConsoleOutcome {
+        report: Report::Refused(refusal),
+        sent: false,
+        console: c,
+    }
+}
+
+// What a letter asks of a console, if it asks one.
+fn asked(byte: u8) -> Option<ConsoleAsk>
+    ensures { result ≡ console_ask_in (found_of (letter byte)) }
+{
+    match letters::find(byte)?.asks {
+        Asks::Console(ask) => Some(ask),
+        _ => None,
+    }
+}
+
+// What a console is asked, and what it does: 1, 2, then what is asked.
+#[tactic(auto, using(crate::proofs::ConsoleAlone::entry, crate::proofs::ConsoleWritable::does_writable))]
+fn obeys(
+    c: Console,
+    letter: u8,
+    message: &[u8; 16],
+    packet: &[u8],
+    reply: &[u8],
+) -> Result<(ConsoleAsk, Acted), Refusal>
+    ensures told { console_answer c message.now reply.now result ≡ console_alone c letter message.now packet.now reply.now }
+    ensures writable { IfOk result (λ x. Writable (to_controller_sent x.1.sent (message_kept (console_ask_means x.0) message.now c.message)) (length reply.now)) }
+{
+    let ask = asked(letter).ok_or(Refusal::NoAction)?;
+    let e = read_console(c).ok_or(Refusal::IllFormed)?;
+    Ok((ask, does(e, ask, message, packet, reply)?))
 }
 
 // P Q D S C V A of a console run alone; any other letter is 1. What is sent is written to `reply`.
@@ -247,22 +182,11 @@ pub fn step(
 ) -> ConsoleOutcome
     ensures { record { outcome = result; reply = reply.new } ≡ console_alone c letter message.now packet.now reply.old }
 {
-    let found = letters::find(letter);
-    match found {
-        Found::Nothing => refused(1, c),
-        Found::Line(line) => {
-            let asks = line.asks;
-            match asks {
-                Asks::Console(ask) => {
-                    let read = read_console(c);
-                    match read {
-                        ConsoleRead::IllFormed => refused(2, c),
-                        ConsoleRead::Is(e) => does(c, e, ask, message, packet, reply),
-                    }
-                }
-                Asks::Controller(_) => refused(1, c),
-                Asks::NoEnd => refused(1, c),
-            }
+    match obeys(c, letter, message, packet, reply) {
+        Ok((ask, acted)) => {
+            let held = message_kept(ask, message, c.message);
+            told(acted, ack_use(ask), c.ack, held, reply)
         }
+        Err(refusal) => refused(refusal, c),
     }
 }

@@ -1,24 +1,26 @@
 // A controller run alone.
-ghost use Rattle.std.specs.Prelude.{◌≡◌, not, true, false, List, ℕ, length, drop};
+ghost use Rattle.std.specs.Prelude.{◌≡◌, false, Some, IfOk, length, drop};
 ghost use Rattle.ground.specs.Cell.{spaces};
-ghost use Rattle.wire.specs.Packet.{numbered, packet_read};
-ghost use Rattle.rules.specs.Ends.{absent, ControllerAct};
-ghost use Rattle.letters.specs.Lines.{controller_ask_means};
-ghost use Rattle.ends_controller.specs.Fields.{controller_read, controller_fields};
-ghost use Rattle.ends.specs.AsRules.{for_console, delivered_beside};
-ghost use Rattle.ends.specs.Packets.{head_for_controller, to_console_sent};
-ghost use Rattle.alone.specs.Alone.{Writable, replied};
-ghost use Rattle.alone.specs.ControllerAlone.{controller_alone_acts, controller_alone_takes, controller_hears, controller_lent, controller_asked, controller_alone};
-ghost use Rattle.alone.specs.ControllerPrivate.{controller_tells, controller_sends};
+ghost use Rattle.wire.specs.Packet.{head_read};
+ghost use Rattle.rules.specs.Ends.{ControllerAct};
+ghost use Rattle.rules.specs.Letters.{letter};
+ghost use Rattle.letters.specs.Lines.{controller_ask_means, found_of};
+ghost use Rattle.ends.specs.AsRules.{for_controller, delivered_beside};
+ghost use Rattle.ends.specs.Packets.{to_console_sent};
+ghost use Rattle.alone.specs.Alone.{Writable};
+ghost use Rattle.alone.specs.AnyEnd.{lent};
+ghost use Rattle.alone.specs.ControllerAlone.{controller_alone};
+ghost use Rattle.alone.specs.ControllerPrivate.{controller_act, controller_heard, controller_does, Delivers, controller_tells, controller_ask_in, controller_answer};
+ghost use Rattle.alone.specs.Private.{refuses};
 
+use crate::{send, sends};
 use ends::packets::{for_controller, to_console};
-use ends::{ForConsole, ForController, Report};
-use ends_controller::fields::{Controller, ControllerRead, controller_of, read_controller};
-use ends_controller::refusals::send_refusal;
+use ends::{Report, ToController};
+use ends_controller::fields::{Controller, controller_of, read_controller};
 use ends_controller::turns::{offer_sent, ok_sent};
 use ends_controller::{Acted, End, acts};
-use letters::{Asks, ControllerAsk, Found};
-use wire::{Head, ReadHead};
+use ground::Refusal;
+use letters::{Asks, ControllerAsk};
 
 // The message is the delivered one, 16 spaces with any other report.
 #[derive(Clone, Copy)]
@@ -29,47 +31,55 @@ pub struct ControllerOutcome {
     pub controller: Controller,
 }
 
-fn refused(n: u8, c: Controller) -> ControllerOutcome
-    ensures { result ≡ record { report = Report.Refused n; message = spaces; sent = false; controller = c } }
+// R of a packet that is for it.
+#[tactic(auto, unfolding(crate::specs::ControllerPrivate::controller_act))]
+fn hears(e: End, came: ToController) -> Result<Acted, Refusal>
+    ensures { result ≡ controller_act e (ControllerAct.take (for_controller (Some came))) }
 {
-    ControllerOutcome {
-        report: Report::Refused(n),
-        message: [0x20; 16],
-        sent: false,
-        controller: c,
+    acts::take_refusal(e, Some(came))?;
+    Ok(acts::takes_what_came(e, Some(came)))
+}
+
+// R. It is lent the reply buffer, whose length is looked at even with nothing to send. A packet in whose kind goes the other way is 15.
+#[tactic(auto, unfolding(crate::specs::AnyEnd::lent, ground::specs::Choice::chosen))]
+fn takes(e: End, packet: &[u8], reply: &[u8]) -> Result<Acted, Refusal>
+    ensures { result ≡ lent refuses (length reply.now) (controller_heard e (head_read packet.now)) }
+{
+    if reply.len() != 32 {
+        return Err(Refusal::WrongLength);
+    }
+    let head = wire::read_head(packet)?;
+    let came = for_controller(head).ok_or(Refusal::WrongField)?;
+    hears(e, came)
+}
+
+// Y. As V, of a controller.
+#[tactic(auto, unfolding(crate::specs::ControllerPrivate::controller_act, rules::specs::Ends::ends))]
+fn comes_back(e: End) -> Result<Acted, Refusal>
+    ensures { result ≡ controller_act e ControllerAct.come_back }
+{
+    if e.up {
+        return Err(Refusal::IsUp);
+    }
+    Ok(acts::comes_back(e))
+}
+
+// What a well-formed controller does that is asked. A match on an enum, as the console's.
+#[tactic(auto, using(crate::proofs::ControllerAlone::asking))]
+fn does(e: End, ask: ControllerAsk, packet: &[u8], reply: &[u8]) -> Result<Acted, Refusal>
+    ensures { result ≡ controller_does e packet.now (length reply.now) (controller_ask_means ask) }
+{
+    match ask {
+        ControllerAsk::SendOffer => sends(e, offer_sent(e.mode), reply),
+        ControllerAsk::SendOk => sends(e, ok_sent(e.mode), reply),
+        ControllerAsk::Take => takes(e, packet, reply),
+        ControllerAsk::GoDown => Ok(acts::goes_down(e)),
+        ControllerAsk::ComeBack => comes_back(e),
     }
 }
 
-// Writes what is sent, and tells whether anything is.
-fn send(sent: ForConsole, reply: &mut [u8]) -> bool
-    requires { Writable (to_console_sent sent) (length reply.old) }
-    ensures { (result ≡ not (absent (for_console sent))) × (reply.new ≡ replied (to_console_sent sent) reply.old) }
-{
-    match sent {
-        ForConsole::Nothing => false,
-        ForConsole::Packet(p) => {
-            let packet = to_console(p);
-            wire::write_packet(reply, packet);
-            true
-        }
-    }
-}
-
-// What was done by an act that sends and delivers nothing.
-fn done(acted: Acted) -> ControllerOutcome
-    ensures { result ≡ record { report = acted.report; message = spaces; sent = false; controller = controller_fields acted.after } }
-{
-    let report = acted.report;
-    let end = acted.after;
-    ControllerOutcome {
-        report,
-        message: [0x20; 16],
-        sent: false,
-        controller: controller_of(end),
-    }
-}
-
-// The message of a packet that was read.
+// The message of a packet that was read: 16 bytes by both bounds, so that nothing outside is called to copy them. Wire's own asks for 32 bytes, as
+// this does, so that it is private there: what is public asks nothing.
 fn message_at(packet: &[u8]) -> [u8; 16]
     requires { length packet.now ≡ 32 }
     ensures { result ≡ drop 16 packet.now }
@@ -81,156 +91,69 @@ fn message_at(packet: &[u8]) -> [u8; 16]
 
 // It is copied where it is delivered alone.
 fn delivers(report: Report, packet: &[u8]) -> [u8; 16]
-    requires { length packet.now ≡ 32 }
+    requires { Delivers report packet.now }
     ensures { result ≡ delivered_beside report (drop 16 packet.now) }
 {
     match report {
-        Report::Nothing => [0x20; 16],
         Report::Delivered => message_at(packet),
-        Report::Ok => [0x20; 16],
-        Report::Lost => [0x20; 16],
-        Report::Refused(_) => [0x20; 16],
+        _ => [0x20; 16],
     }
 }
 
-// What was done with a packet in: the message that it delivers is told, and what it sends is written.
-fn replies(acted: Acted, packet: &[u8], reply: &mut [u8]) -> ControllerOutcome
-    requires packet_len { length packet.now ≡ 32 }
+// What was done is told, with the message that it delivers of the packet in, and what it sends is written.
+#[tactic(auto, unfolding(crate::specs::ControllerPrivate::controller_tells, ends::specs::Packets::to_console_sent))]
+fn told(acted: Acted, packet: &[u8], reply: &mut [u8]) -> ControllerOutcome
+    requires delivers { Delivers acted.report packet.now }
     requires writable { Writable (to_console_sent acted.sent) (length reply.old) }
     ensures { record { outcome = result; reply = reply.new } ≡ controller_tells acted (drop 16 packet.now) reply.old }
 {
-    let report = acted.report;
-    let sent = acted.sent;
-    let end = acted.after;
-    let message = delivers(report, packet);
-    let written = send(sent, reply);
     ControllerOutcome {
-        report,
-        message,
-        sent: written,
-        controller: controller_of(end),
+        report: acted.report,
+        message: delivers(acted.report, packet),
+        sent: send(acted.sent.map(to_console), reply),
+        controller: controller_of(acted.after),
     }
 }
 
-// O and K. They are lent the reply buffer, and change nothing of the controller.
-fn sends(c: Controller, e: End, sent: ForConsole, reply: &mut [u8]) -> ControllerOutcome
-    requires { Writable (to_console_sent sent) 32 }
-    ensures { record { outcome = result; reply = reply.new } ≡ controller_lent c reply.old (controller_sends c e.up sent reply.old) }
+fn refused(refusal: Refusal, c: Controller) -> ControllerOutcome
+    ensures { result ≡ record { report = Report.Refused refusal; message = spaces; sent = false; controller = c } }
 {
-    if reply.len() != 32 {
-        return refused(12, c);
-    }
-    let n = send_refusal(e.up, sent);
-    if n != 0 {
-        return refused(n, c);
-    }
-    let written = send(sent, reply);
     ControllerOutcome {
-        report: Report::Nothing,
+        report: Report::Refused(refusal),
         message: [0x20; 16],
-        sent: written,
+        sent: false,
         controller: c,
     }
 }
 
-// A packet in whose kind goes the other way is 15.
-fn hears(c: Controller, e: End, head: Head, packet: &[u8], reply: &mut [u8]) -> ControllerOutcome
-    requires c_value { controller_read c ≡ ControllerRead.Is e }
-    requires head_value { numbered head ≡ true }
-    requires packet_len { length packet.now ≡ 32 }
-    requires reply_len { length reply.old ≡ 32 }
-    ensures { record { outcome = result; reply = reply.new } ≡ controller_alone_takes c reply.old (drop 16 packet.now) (head_for_controller head) }
+// What a letter asks of a controller, if it asks one.
+fn asked(byte: u8) -> Option<ControllerAsk>
+    ensures { result ≡ controller_ask_in (found_of (letter byte)) }
 {
-    let came = for_controller(head);
-    match came {
-        ForController::Nothing => refused(15, c),
-        ForController::Packet(p) => {
-            let n = acts::take_refusal(e, ForController::Packet(p));
-            if n != 0 {
-                return refused(n, c);
-            }
-            replies(
-                acts::takes_what_came(e, ForController::Packet(p)),
-                packet,
-                reply,
-            )
-        }
+    match letters::find(byte)?.asks {
+        Asks::Controller(ask) => Some(ask),
+        _ => None,
     }
 }
 
-// R is lent the reply buffer: its length is looked at even with nothing to send.
-fn takes(c: Controller, e: End, packet: &[u8], reply: &mut [u8]) -> ControllerOutcome
-    requires { controller_read c ≡ ControllerRead.Is e }
-    ensures { record { outcome = result; reply = reply.new } ≡ controller_lent c reply.old (controller_hears c reply.old (packet_read packet.now)) }
+// What a controller does: 1, 2, then what is asked.
+#[tactic(auto, using(crate::proofs::ControllerAlone::entry, crate::proofs::ControllerWritable::told_well))]
+fn obeys(c: Controller, letter: u8, packet: &[u8], reply: &[u8]) -> Result<Acted, Refusal>
+    ensures told { controller_answer c (drop 16 packet.now) reply.now result ≡ controller_alone c letter packet.now reply.now }
+    ensures delivers { IfOk result (λ d. Delivers d.report packet.now) }
+    ensures writable { IfOk result (λ d. Writable (to_console_sent d.sent) (length reply.now)) }
 {
-    if reply.len() != 32 {
-        return refused(12, c);
-    }
-    let head = wire::read_head(packet);
-    match head {
-        ReadHead::Refused(n) => refused(n, c),
-        ReadHead::Is(h) => hears(c, e, h, packet, reply),
-    }
-}
-
-fn goes_down(c: Controller, e: End) -> ControllerOutcome
-    requires { controller_read c ≡ ControllerRead.Is e }
-    ensures { (reply : List ℕ) → record { outcome = result; reply = reply } ≡ controller_alone_acts c reply ControllerAct.go_down }
-{
-    done(acts::goes_down(e))
-}
-
-fn comes_back(c: Controller, e: End) -> ControllerOutcome
-    requires { controller_read c ≡ ControllerRead.Is e }
-    ensures { (reply : List ℕ) → record { outcome = result; reply = reply } ≡ controller_alone_acts c reply ControllerAct.come_back }
-{
-    if e.up {
-        return refused(5, c);
-    }
-    done(acts::comes_back(e))
-}
-
-// What a well-formed controller is asked.
-fn does(
-    c: Controller,
-    e: End,
-    ask: ControllerAsk,
-    packet: &[u8],
-    reply: &mut [u8],
-) -> ControllerOutcome
-    requires { controller_read c ≡ ControllerRead.Is e }
-    ensures { record { outcome = result; reply = reply.new } ≡ controller_asked c reply.old packet.now (controller_ask_means ask) }
-{
-    let mode = e.mode;
-    match ask {
-        ControllerAsk::SendOffer => sends(c, e, offer_sent(mode), reply),
-        ControllerAsk::SendOk => sends(c, e, ok_sent(mode), reply),
-        ControllerAsk::Take => takes(c, e, packet, reply),
-        ControllerAsk::GoDown => goes_down(c, e),
-        ControllerAsk::ComeBack => comes_back(c, e),
-    }
+    let ask = asked(letter).ok_or(Refusal::NoAction)?;
+    let e = read_controller(c).ok_or(Refusal::IllFormed)?;
+    does(e, ask, packet, reply)
 }
 
 // O K R X Y of a controller run alone; any other letter is 1. What is sent is written to `reply`.
 pub fn step(c: Controller, letter: u8, packet: &[u8], reply: &mut [u8]) -> ControllerOutcome
     ensures { record { outcome = result; reply = reply.new } ≡ controller_alone c letter packet.now reply.old }
 {
-    let found = letters::find(letter);
-    match found {
-        Found::Nothing => refused(1, c),
-        Found::Line(line) => {
-            let asks = line.asks;
-            match asks {
-                Asks::Controller(ask) => {
-                    let read = read_controller(c);
-                    match read {
-                        ControllerRead::IllFormed => refused(2, c),
-                        ControllerRead::Is(e) => does(c, e, ask, packet, reply),
-                    }
-                }
-                Asks::Console(_) => refused(1, c),
-                Asks::NoEnd => refused(1, c),
-            }
-        }
+    match obeys(c, letter, packet, reply) {
+        Ok(acted) => told(acted, packet, reply),
+        Err(refusal) => refused(refusal, c),
     }
 }

@@ -1,11 +1,11 @@
 -- A bench that passes its check is well formed in the rules, and its tables are what they stand for.
 use Prim.Native.Nat.{ℕ, ◌≤◌}
 use mathlib.Core.Path.{◌≡◌, refl, sym, subst, ◌∙◌}
-use mathlib.Core.Bool.{Bool, true, false, not, ◌&&◌}
+use mathlib.Core.Bool.{Bool, true, ◌&&◌}
 use mathlib.Core.List.{List}
-use borrow.Author.Tests.{not-true, not-false}
+use Rattle.std.specs.Prelude.{Some}
 use Rattle.ground.specs.Bytes.{Bytes}
-use Rattle.ground.specs.Choice.{when◌then◌else◌}
+use Rattle.ground.specs.Choice.{chosen}
 use Rattle.ground.proofs.Tests.{and_left, and_right, and_both}
 use Rattle.wire.specs.declared.Direction.TheVariants.{ToController, ToConsole}
 use Rattle.ends_console.specs.Fields.{console_ok, console_end, console_read}
@@ -14,10 +14,8 @@ use Rattle.ends_console.proofs.FieldsRead as console-fields
 use Rattle.ends_console.proofs.WellFormed.{console_good}
 use Rattle.ends_controller.proofs.FieldsRead as controller-fields
 use Rattle.ends_controller.proofs.WellFormed.{controller_good}
-use Rattle.ends_console.specs.declared.End as console-end
-use Rattle.ends_console.specs.declared.fields.ConsoleRead.TheVariants as console-read
-use Rattle.ends_controller.specs.declared.End as controller-end
-use Rattle.ends_controller.specs.declared.fields.ControllerRead.TheVariants as controller-read
+use Rattle.ends_console.specs.Types as console-types
+use Rattle.ends_controller.specs.Types as controller-types
 use Rattle.channels.specs.Table.{table_ok}
 use Rattle.channels.proofs.Channel.{packets_good, packets_length, channel_packets, table_facts}
 use Rattle.channels.proofs.Packets.{to_controller_coded, to_console_coded}
@@ -27,29 +25,20 @@ use Rattle.bench.specs.Loaded.{Well, loaded_of, Typed}
 use Rattle.bench.specs.declared.Bench.{Bench}
 use Rattle.bench.specs.declared.loaded.Loaded.{Loaded}
 
--- ## The tables
-
-module _ {x : Bool} (out back : List ℕ) (sent returned : ℕ) (e : x ≡ table_ok ToController sent out) where
-  pub out_ill : not x ≡ true → false ≡ (table_ok ToController sent out && table_ok ToConsole returned back)
-  out_ill n = rw (← e, not-true x n)
-
-  pub out_ok : {y : Bool} → not x ≡ false → y ≡ table_ok ToConsole returned back → y ≡ (table_ok ToController sent out && table_ok ToConsole returned back)
-  out_ok n f = rw (← e, not-false x n) f
-
 -- ## What passes
 
-module _ (b : Bench) (out back : List ℕ) {e : console-end.End} {f : controller-end.End} {ok : Bool} (r : console_read b.console ≡ console-read.Is e) (s : controller_read b.controller ≡ controller-read.Is f)
+module _ (b : Bench) (out back : List ℕ) {e : console-types.End} {f : controller-types.End} {ok : Bool} (r : console_read b.console ≡ Some e) (s : controller_read b.controller ≡ Some f)
     (t : ok ≡ (table_ok ToController b.sent out && table_ok ToConsole b.returned back)) where
   pub passes : bench_ok b out back ≡ ok
   unfolding bench_ok
   passes = rw ((console-fields.was_read b.console r).0, (controller-fields.was_read b.controller s).0) (sym t)
 
-  module _ (n : not ok ≡ false) where
+  module _ (n : ok ≡ true) where
     out_passes : table_ok ToController b.sent out ≡ true
-    out_passes = and_left (table_ok ToController b.sent out) (table_ok ToConsole b.returned back) (sym t ∙ not-false ok n)
+    out_passes = and_left (table_ok ToController b.sent out) (table_ok ToConsole b.returned back) (sym t ∙ n)
 
     back_passes : table_ok ToConsole b.returned back ≡ true
-    back_passes = and_right (table_ok ToController b.sent out) (table_ok ToConsole b.returned back) (sym t ∙ not-false ok n)
+    back_passes = and_right (table_ok ToController b.sent out) (table_ok ToConsole b.returned back) (sym t ∙ n)
 
     loaded_is : loaded_of (console_end b.console) b.console.ack b.console.message (controller_end b.controller) b.sent b.returned ≡ loaded_of e b.console.ack b.console.message f b.sent b.returned
     loaded_is =
@@ -100,13 +89,13 @@ module _ (b : Bench) (out back : List ℕ) (ok : bench_ok b out back ≡ true) w
   unfolding bench_ok
   tables_pass = and_both t u (and_right (c && d) t (and_left (c && d && t) u ok)) (and_right (c && d && t) u ok)
 
-  console_is_read : console_read b.console ≡ console-read.Is (console_end b.console)
-  unfolding console_read when◌then◌else◌
+  console_is_read : console_read b.console ≡ Some (console_end b.console)
+  unfolding console_read chosen
   console_is_read = rw console_passes
 
-  controller_is_read : controller_read b.controller ≡ controller-read.Is (controller_end b.controller)
-  unfolding controller_read when◌then◌else◌
+  controller_is_read : controller_read b.controller ≡ Some (controller_end b.controller)
+  unfolding controller_read chosen
   controller_is_read = rw controller_passes
 
   pub passes_well : Typed b.console b.controller → Bytes out → Bytes back → Well (loaded_of (console_end b.console) b.console.ack b.console.message (controller_end b.controller) b.sent b.returned) out back
-  passes_well typed p q = well_so b out back console_is_read controller_is_read refl (rw tables_pass) typed p q refl
+  passes_well typed p q = well_so b out back console_is_read controller_is_read refl tables_pass typed p q refl

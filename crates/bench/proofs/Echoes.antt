@@ -7,8 +7,9 @@ use contract.Lifetimes.{Lfts}
 use borrow.Fn.Kinds.{Dens, ended_of}
 use denote.Triple.Clauses.{AtExit}
 use lib.ListN.{length, get_or, drop, replicate}
+use Rattle.ground.specs.declared.refusals.Refusal.TheVariants.{OtherMode}
 use Rattle.ground.specs.Cell.{cells, is_message, spaces}
-use Rattle.ground.specs.Choice.{when◌then◌else◌}
+use Rattle.ground.specs.Choice.{chosen}
 use Rattle.ground.specs.Every.{filled}
 use Rattle.rules.specs.Supply.{numbering, fresh_numbers}
 use Rattle.rules.specs.Reading.{read_step, fresh_reading, readings}
@@ -60,17 +61,17 @@ after_ok = next_ok fresh asked fresh_ok
 
 -- the record is the action
 put_played : (b : Here) → played (bench_back b) (out b) (back b) put ≡ bench_step (bench_back b) putting (out b) (back b)
-unfolding played list_action list_record is_well_formed fields_fit place_fits copies_fit message_fits is_place is_copies fields is_message cells filled when◌then◌else◌ line letters among letter line_of
+unfolding played list_action list_record is_well_formed fields_fit place_fits copies_fit message_fits is_place is_copies fields is_message cells filled chosen line letters among letter line_of
 put_played b = refl
 
 first : played (bench_back fresh) (replicate 2048 0) (replicate 2048 0) put ≡ bench_told (read_step numbering is_message fresh asked)
-unfolding rules.fresh letter among letters line when◌then◌else◌
+unfolding rules.fresh letter among letters line chosen
 first =
     (λ i. played (bench_back fresh) (sym (channel_none to_controller_coded) i) (sym (channel_none to_console_coded) i) put)
     ∙ put_played fresh ∙ step_of fresh fresh_ok putting p_put refl
 
 second : played (bench_back after) (out after) (back after) put ≡ bench_told (read_step numbering is_message after asked)
-unfolding letter among letters line when◌then◌else◌
+unfolding letter among letters line chosen
 second = put_played after ∙ step_of after after_ok putting p_put refl
 
 accepted : (read_step numbering is_message fresh asked).report ≡ ends.nothing
@@ -85,7 +86,7 @@ refused = refl
 abbrev told : ℕ → Result → List (List ℕ) → List ℕ
 told k r ss = report_line k 0x50 r.outcome.report r.outcome.message ++ lines (k + 1) r.outcome.bench r.out r.back ss
 
-two_lines : list_lines 2 (put ++ put) ≡ report_line 1 0x50 Nothing spaces ++ (report_line 2 0x50 (Refused 6) spaces ++ [])
+two_lines : list_lines 2 (put ++ put) ≡ report_line 1 0x50 Nothing spaces ++ (report_line 2 0x50 (Refused OtherMode) spaces ++ [])
 unfolding list_lines records_of lines bench_told
 two_lines =
     ap (λ (r : Result). told 1 r (put ∷ [])) first
@@ -101,8 +102,8 @@ second_line rest = (ap (λ (l : List ℕ). get_or (l ++ rest) 27 0) two_lines, a
 
 -- of two puts with room for two lines, the second line says 06; a runner that says of it what it said of the first does not meet the promise
 module _ (κs : Lfts 2) (a : Dens κs run-kinds.ps) (x : ℕ) (s : AtExit (ended_of 2 run-kinds.ps run-kinds.r) κs) (two : a.0.now ≡ put ++ put) (room : length a.1.0.now ≡ 54) (meets : run.Post κs a x s) where
-  written_so : s.1.0.now ≡ (report_line 1 0x50 Nothing spaces ++ (report_line 2 0x50 (Refused 6) spaces ++ [])) ++ drop (length (list_lines 2 (put ++ put))) a.1.0.now
-  unfolding list_run limit_of when◌then◌else◌
+  written_so : s.1.0.now ≡ (report_line 1 0x50 Nothing spaces ++ (report_line 2 0x50 (Refused OtherMode) spaces ++ [])) ++ drop (length (list_lines 2 (put ++ put))) a.1.0.now
+  unfolding list_run limit_of chosen
   written_so =
       ap (λ (r : Ran). r.output) meets
       ∙ (λ i. list_lines (limit_of (room i)) (two i) ++ drop (length (list_lines (limit_of (room i)) (two i))) a.1.0.now)

@@ -2,7 +2,7 @@
 use Prim.Native.Nat.{ℕ, suc, ◌*◌}
 use mathlib.Core.Path.{◌≡◌, refl, sym, ap, ap₂, subst, ◌∙◌}
 use mathlib.Core.Bool.{false}
-use mathlib.Core.Option.{Option, none, some}
+use mathlib.Core.Option as maybe
 use mathlib.Core.List.{List, [], ◌∷◌, ◌++◌, map, append_assoc}
 use native.Mathlib.Omega.{arith}
 use contract.Lifetimes.{Lfts}
@@ -10,8 +10,11 @@ use borrow.Fn.Kinds.{Dens, ended_of}
 use denote.Triple.Clauses.{AtExit}
 use lib.ListN.{length, get_or, take, drop, length-append}
 use lib.Seq.{take_at, drop_at}
+use Rattle.ends.proofs.Reports.{IsRefused}
+use Rattle.ground.specs.declared.refusals.Refusal.TheVariants.{NoAction}
+use Rattle.std.specs.Prelude.{Option, None, Some}
 use Rattle.ground.specs.Cell.{is_message}
-use Rattle.ground.specs.Choice.{when◌then◌else◌}
+use Rattle.ground.specs.Choice.{chosen}
 use Rattle.ground.proofs.Tests.{by_test}
 use Rattle.ground.specs.Bytes.{field}
 use Rattle.rules.specs.Supply.{numbering, fresh_numbers}
@@ -28,7 +31,7 @@ use Rattle.rules.proofs.WellFormed.{fresh_well_formed}
 use Rattle.letters.specs.Lines.{line_of, found_of}
 use Rattle.ends.specs.declared.Report.{Report}
 use Rattle.ends.specs.declared.Report.TheVariants as report
-use Rattle.listing.specs.Record.{list_record, is_well_formed, fields, ill_formed}
+use Rattle.listing.specs.Record.{list_record, is_well_formed, fields}
 use Rattle.channels.specs.Table.{laid, channel}
 use Rattle.bench.specs.AsRules.{bench_back}
 use Rattle.bench.specs.Promise.{Result, bench_refused, bench_told, bench_step, bench_fresh, fresh_rules}
@@ -41,16 +44,16 @@ use Rattle.bench.specs.declared.Bench.{Bench}
 use Rattle.bench.specs.declared.Outcome.{Outcome}
 use Rattle.bench.proofs.StepLeaves.{step_leaves}
 use Rattle.bench.proofs.Orders.{Here, out, back, orders_right}
-use Rattle.bench.proofs.Reports.{said, refusal_said, line_letter, line_says, line_message, line_long}
+use Rattle.bench.proofs.Reports.{said, report_said, line_letter, line_says, line_message, line_long}
 use Rattle.bench.proofs.runner.run.Kinds as run-kinds
 use Rattle.bench.proofs.runner.run.Reads as run
 
 -- ## A record is played as the step plays its action
 
 played_as_lem : (o : Option Action) (b : Bench) (out back : List ℕ) → played_as o b out back ≡ bench_step b (action_or o) out back
-unfolding bench_step letter letters among line when◌then◌else◌
-played_as_lem none b out back = refl
-played_as_lem (some a) b out back = refl
+unfolding bench_step letter letters among line chosen
+played_as_lem None b out back = refl
+played_as_lem (Some a) b out back = refl
 
 lines_are : (k : ℕ) (b : Bench) (out back : List ℕ) (ss : List (List ℕ)) → lines k b out back ss ≡ lines_of k ss (outcomes b out back (map action_of ss))
 unfolding lines played outcomes lines_of
@@ -61,7 +64,7 @@ lines_are k b out back (s ∷ ss) =
     ∙ ap (λ (l : List ℕ). report_line k (get_or s 0 0) r.outcome.report r.outcome.message ++ l) (lines_are (suc k) r.outcome.bench r.out r.back ss)
 
 list_lines_lem : (n : ℕ) (s : List ℕ) → list_lines n s ≡ lines_of 1 (records_of n s) (fresh_outcomes j₀ i₀ clear clear (map action_of (records_of n s)))
-unfolding list_lines fresh_outcomes bench_fresh bench_told rules.fresh channel laid when◌then◌else◌
+unfolding list_lines fresh_outcomes bench_fresh bench_told rules.fresh channel laid chosen
 list_lines_lem n s = lines_are 1 _ clear clear (records_of n s)
 
 -- ## What a line shows is what its outcome shows
@@ -74,14 +77,17 @@ module _ (s : List ℕ) (b : Bench) (out back : List ℕ) where
   abbrev Owns : Option Action → Type 0
   Owns o = (bench_step b (action_or o) out back).outcome.report ≡ report.Nothing → OwnAction s (action_or o)
 
-  none_owns : Owns none
-  unfolding bench_step bench_refused letter letters among line when◌then◌else◌
-  none_owns e = absurd (let z : ◌≡◌ {A = ℕ} 0 1 = cc in omega (arith, z))
+  is_no_report : report.Refused NoAction ≡ report.Nothing → ⊥
+  is_no_report e = subst IsRefused e tt
 
-  letter_owns : (o : Option Letter) → letter (get_or s 0 0) ≡ o → Owns (action_as (found_of o) s)
-  unfolding list_record fields ill_formed line_of when◌then◌else◌
-  letter_owns none e = none_owns
-  letter_owns (some l) e =
+  none_owns : Owns None
+  unfolding bench_step bench_refused letter letters among line chosen
+  none_owns e = absurd (is_no_report e)
+
+  letter_owns : (o : maybe.Option Letter) → letter (get_or s 0 0) ≡ o → Owns (action_as (found_of o) s)
+  unfolding list_record fields line_of chosen
+  letter_owns maybe.none e = none_owns
+  letter_owns (maybe.some l) e =
       by_test (is_well_formed (uses_of (line_of l)) s) (λ t. rw t (λ _. (e ∙ sym (letter_of_lem l), refl))) (λ f. rw f none_owns)
 
   record_owns : Owns (list_action s)
@@ -97,12 +103,12 @@ module _ (k : ℕ) (s m : List ℕ) (long : length m ≡ 16) where
   read r = record { letter = get_or (bytes r) 5 0; place = 0; copies = 0; message = field s 4 16 }
 
   by_report : (r : Report) → (r ≡ report.Nothing → OwnAction s (action_of s)) → shown_by (read r) (said (report_cells r)) m ≡ shown_by (action_of s) r m
-  unfolding cells_say when◌then◌else◌
+  unfolding cells_say chosen
   by_report report.Nothing own = rw (line_letter k (get_or s 0 0) m report.Nothing, (own refl).0, (own refl).1)
   by_report report.Delivered own = refl
   by_report report.Ok own = refl
   by_report report.Lost own = refl
-  by_report (report.Refused n) own = ap (λ (x : Report). shown_by (read (report.Refused n)) x m) (refusal_said n)
+  by_report (report.Refused q) own = ap (λ (x : Report). shown_by (read (report.Refused q)) x m) (report_said (report.Refused q))
 
   line_shows_lem : (r : Report) → (r ≡ report.Nothing → OwnAction s (action_of s)) → line_shows s (bytes r) ≡ shown_by (action_of s) r m
   unfolding line_shows
@@ -134,7 +140,7 @@ all_shown_lem k b w (s ∷ ss) rest =
     let m : length y ≡ 27 * length ss = ap (λ (z : List Outcome). length (lines_of (suc k) ss z)) next ∙ more.1 in (
       ap (λ (z : List ℕ). line_shows s (take 27 z) ∷ lines_show ss (drop 27 z)) joined
           ∙ ap₂ (λ (p q : List ℕ). line_shows s p ∷ lines_show ss q) (take_at x (y ++ rest) 27 l) (drop_at x (y ++ rest) 27 l)
-          ∙ ap₂ (λ (p : Option (Event (List ℕ))) (q : Rows). p ∷ q) here tail,
+          ∙ ap₂ (λ (p : maybe.Option (Event (List ℕ))) (q : Rows). p ∷ q) here tail,
       omega (arith, n, l, m),
     )
 
@@ -154,7 +160,7 @@ module _ (input before : List ℕ) where
   fresh_ok = fresh_well_formed numbering is_message (fresh_numbers 0) (fresh_numbers 0) refl refl
 
   lines_shown : (rest : List ℕ) → (lines_show records (all ++ rest) ≡ all_shown_of (actions_in input before) told) × (length all ≡ 27 * length records)
-  unfolding fresh_outcomes bench_fresh bench_told when◌then◌else◌
+  unfolding fresh_outcomes bench_fresh bench_told chosen
   lines_shown rest = all_shown_lem 1 (fresh_rules j₀ i₀) fresh_ok records rest
 
   ran : list_run input before ≡ record { number = length all; output = all ++ drop (length all) before }

@@ -4,8 +4,11 @@ use mathlib.Core.Path.{◌≡◌, refl, sym, ap, ◌∙◌}
 use mathlib.Core.Bool.{Bool, true, ◌&&◌}
 use mathlib.Core.List.{List}
 use lib.Dec.{ltb}
+use Rattle.ground.specs.declared.refusals.Refusal.TheVariants.{TooManyCopies}
+use Rattle.ground.specs.declared.refusals.Refusal.{Refusal}
+use Rattle.std.specs.Prelude.{None}
 use Rattle.ground.specs.Cell.{spaces}
-use Rattle.ground.specs.Choice.{when◌then◌else◌}
+use Rattle.ground.specs.Choice.{chosen}
 use Rattle.rules.specs.Supply.{numbering}
 use Rattle.rules.specs.Offered.{moved}
 use Rattle.rules.specs.Reading.{reading}
@@ -19,8 +22,6 @@ use Rattle.numbers.specs.Numbers.{numbers_means, numbers_taken, numbers_moved, m
 use Rattle.numbers.specs.declared.Move.{Move}
 use Rattle.numbers.specs.declared.Move.TheVariants.{Stay, Take, Back}
 use Rattle.numbers.specs.declared.Numbers.{Numbers}
-use Rattle.numbers.proofs.Counting.{next_given}
-use Rattle.ends.specs.declared.ForController.TheVariants as for-controller
 use Rattle.ends.specs.declared.Report.TheVariants.{Refused}
 use Rattle.ends_console.specs.Ack.{use_means, ack_use, acked}
 use Rattle.ends_console.specs.declared.ack.AckUse.{AckUse}
@@ -38,10 +39,10 @@ use Rattle.bench.specs.declared.modes.Told.{Told}
 use Rattle.bench.proofs.NumbersOffered as by
 
 numbering_offers : by.Offering numbering
-numbering_offers = record { next_given = next_given; next_number = numbering_lawful.next_number; fits = λ n h. h }
+numbering_offers = record { next_number = numbering_lawful.next_number; fits = λ n h. h }
 
 after_so : (m : Move) (n : Numbers) → by.OfferedOne numbering (numbers_means n) m → numbers_means (numbers_moved m n) ≡ moved numbering (move_means m) (numbers_means n)
-unfolding moved numbers_taken when◌then◌else◌
+unfolding moved numbers_taken chosen
 after_so Stay n h = refl
 after_so Take n h = rw (h tt)
 after_so Back n h = refl
@@ -53,7 +54,7 @@ module _ (b : Loaded) (out back : List ℕ) (k : Well b out back) where
 -- ## By whom is asked
 
 module _ (b : Loaded) (out back : List ℕ) (k : Well b out back) (line : Line) (a : Action) where
-  pub too_many_so : {many : Bool} {r : Stepped} → Lined line → many ≡ (line.copies && ltb 3 a.copies) → many ≡ true → r ≡ record { report = Refused 10; message = spaces; after = b }
+  pub too_many_so : {many : Bool} {r : Stepped} → Lined line → many ≡ (line.copies && ltb 3 a.copies) → many ≡ true → r ≡ record { report = Refused TooManyCopies; message = spaces; after = b }
       → stepped_as r out back ≡ loaded_step b out back line a
   unfolding stepped_as
   too_many_so l p t q =
@@ -82,8 +83,8 @@ module _ (b : Loaded) (out back : List ℕ) (k : Well b out back) (line : Line) 
           (by.console_by numbering_offers b.modes _ _ b.ack out back k line a n came f h c told out' back' e v) s g
 
       -- a refusal is shown as it is
-      pub console_refused_lem : (told : Told) {r : Stepped} {s : Shown} {m : ℕ} (out' back' : List ℕ) → told_as told o out' back' ≡ modes_step b.modes o out back line a
-          → told.report ≡ Refused m → s ≡ as_it_is b.ack told → r ≡ moved_by b.console b.controller s told → stepped_as r out' back' ≡ loaded_step b out back line a
+      pub console_refused_lem : (told : Told) {r : Stepped} {s : Shown} {q : Refusal} (out' back' : List ℕ) → told_as told o out' back' ≡ modes_step b.modes o out back line a
+          → told.report ≡ Refused q → s ≡ as_it_is b.ack told → r ≡ moved_by b.console b.controller s told → stepped_as r out' back' ≡ loaded_step b out back line a
       console_refused_lem told out' back' e refuses s g =
           stepped_so told out' back' (by.console_there numbering_offers b.modes _ _ b.ack out back k line a n came f h c told out' back' e)
           (by.console_refused_by numbering_offers b.modes _ _ b.ack out back k line a n came f h c told out' back' e refuses) s g
@@ -99,7 +100,7 @@ module _ (b : Loaded) (out back : List ℕ) (k : Well b out back) (line : Line) 
           (by.controller_by numbering_offers b.modes _ _ b.ack out back k line a n came f h c told out' back' e) s g
 
   -- no end is asked, and nothing came
-  module _ (n : Few line a) {o : Offered} (h : line.asks ≡ asks.NoEnd) (f : o ≡ numbers_offered b.console b.controller for-controller.Nothing) where
+  module _ (n : Few line a) {o : Offered} (h : line.asks ≡ asks.NoEnd) (f : o ≡ numbers_offered b.console b.controller None) where
     pub on_losing : OnLosing b.modes o out back line a
     on_losing = by.on_losing numbering_offers b.modes _ _ b.ack out back k line a n h f
 

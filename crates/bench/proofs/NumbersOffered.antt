@@ -2,10 +2,16 @@
 use Prim.Native.Nat.{ℕ}
 use mathlib.Core.Path.{◌≡◌, refl, sym, ap, subst, ◌∙◌}
 use mathlib.Core.Bool.{Bool, true, false, not, ◌&&◌}
-use mathlib.Core.Option.{Option, some}
+use mathlib.Core.Option as maybe
 use mathlib.Core.List.{List}
 use native.Mathlib.Omega.{arith}
 use lib.Dec.{ltb}
+use Rattle.ground.proofs.RefusalNumbers.{refusal_of-number_of}
+use Rattle.ends_controller.specs.AsRules as controller
+use Rattle.ends_console.specs.AsRules as console
+use Rattle.ground.specs.declared.refusals.Refusal.TheVariants.{TooManyCopies}
+use Rattle.ground.specs.declared.refusals.Refusal.{Refusal}
+use Rattle.std.specs.Prelude.{None}
 use Rattle.ground.specs.Cell.{is_message, spaces}
 use Rattle.ground.specs.First.{refusal}
 use Rattle.rules.specs.Supply.{Supply, numbering}
@@ -26,10 +32,9 @@ use Rattle.letters.specs.declared.Asks.TheVariants as asks
 use Rattle.letters.specs.declared.ConsoleAsk.{ConsoleAsk}
 use Rattle.letters.specs.declared.ControllerAsk.{ControllerAsk}
 use Rattle.letters.specs.declared.Line.{Line}
-use Rattle.numbers.specs.Numbers.{number_or0, given, move_means}
+use Rattle.numbers.specs.Numbers.{move_means}
 use Rattle.numbers.specs.declared.Move.{Move}
 use Rattle.ends.specs.AsRules.{for_controller}
-use Rattle.ends.specs.declared.ForController.TheVariants as for-controller
 use Rattle.ends.specs.declared.Report.TheVariants.{Refused}
 use Rattle.ends_console.specs.Ack.{use_means, ack_use, acked}
 use Rattle.ends_console.specs.declared.ack.AckUse.{AckUse}
@@ -37,7 +42,7 @@ use Rattle.ends_console.specs.declared.ack.Shown.{Shown}
 use Rattle.ends_controller.proofs.MessageBeside.{same_unknown}
 use Rattle.bench.specs.Arriving.{nothing_came, came_out, came_for}
 use Rattle.bench.specs.ByModes.{RulesOutcome, Known, Offers, Arrived, Few, OnConsole, OnController, OnLosing, told_as, shown_of, modes_moved, modes_means, modes_step, action_of}
-use Rattle.bench.specs.WithNumbers.{with_numbers, WellWith, offered_by, as_it_is, moved_with, read_of, step_with}
+use Rattle.bench.specs.WithNumbers.{with_numbers, WellWith, next_j, next_i, offered_by, as_it_is, moved_with, read_of, step_with}
 use Rattle.bench.specs.declared.Action.{Action}
 use Rattle.bench.specs.declared.arriving.Came.{Came}
 use Rattle.bench.specs.declared.modes.Modes.{Modes}
@@ -48,11 +53,18 @@ use Rattle.bench.proofs.PacketAtPlace.{out_is}
 use Rattle.bench.proofs.RefusedByModes.{out_held}
 use Rattle.bench.proofs.WhoIsAsked.{asked_console, asked_controller, asked_no_end}
 
+-- a number as it is handed on is the same number
+given_j : (n : maybe.Option ℕ) → console.given (next_j n) ≡ n
+given_j maybe.none = refl
+given_j (maybe.some n) = refl
+
+given_i : (n : maybe.Option ℕ) → controller.given (next_i n) ≡ n
+given_i maybe.none = refl
+given_i (maybe.some n) = refl
+
 -- what is asked of a supply whose numbers are offered
 pub record Offering {S : Type 0} (U : Supply S) : Type 0 where
-  -- 0 is none of them
-  pub next_given : (s : S) → given (number_or0 (U.next s)) ≡ U.next s
-  pub next_number : (s : S) (n : ℕ) → U.sound s ≡ true → U.next s ≡ some n → Number U n
+  pub next_number : (s : S) (n : ℕ) → U.sound s ≡ true → U.next s ≡ maybe.some n → Number U n
   -- each can be written in a packet
   pub fits : (n : ℕ) → Number U n → Number numbering n
 
@@ -82,8 +94,8 @@ module _ {S : Type 0} {U : Supply S} (offering : Offering U) (b : Modes) (s t : 
         back_holds = k.back_holds;
       }
 
-  offers_so : (q : S) → U.sound q ≡ true → Offers (number_or0 (U.next q))
-  offers_so q h m e = offering.fits m (offering.next_number q m h (sym (offering.next_given q) ∙ e))
+  offers_so : (q : S) → U.sound q ≡ true → Offers (U.next q)
+  offers_so q h m e = offering.fits m (offering.next_number q m h e)
 
   module _ (line : Line) (a : Action) (came : Came) {o : Offered} (c : came ≡ came_for line.asks out b.sent back b.returned a.place)
       (f : o ≡ offered_by U s t came.controller) where
@@ -96,8 +108,8 @@ module _ {S : Type 0} {U : Supply S} (offering : Offering U) (b : Modes) (s t : 
               ap (λ (x : Offered). ends.unknown (λ n. not x.unknown) (for_controller came.controller)) f
               ∙ unknown_by_offer (U.used t) (for_controller came.controller)
               ∙ sym (ap (λ (x : Offered). x.unknown) f);
-          j_offered = subst (λ (x : Offered). Offers x.j.0) (sym f) (offers_so s k.well_formed.console.numbers);
-          i_offered = subst (λ (x : Offered). Offers x.i.0) (sym f) (offers_so t k.well_formed.controller.numbers);
+          j_offered = subst Offers (sym (ap (λ (x : Offered). console.given x.j) f ∙ given_j (U.next s))) (offers_so s k.well_formed.console.numbers);
+          i_offered = subst Offers (sym (ap (λ (x : Offered). controller.given x.i) f ∙ given_i (U.next t))) (offers_so t k.well_formed.controller.numbers);
         }
 
     -- ## The bench with its numbers on offer
@@ -110,21 +122,21 @@ module _ {S : Type 0} {U : Supply S} (offering : Offering U) (b : Modes) (s t : 
     offered-is =
         (λ i.
         record {
-          console = record { numbers = record { next = given (f i).j.0; known = true; move = offered.unmoved }; mode = B.console.mode; up = B.console.up };
-          controller = record { numbers = record { next = given (f i).i.0; known = known; move = offered.unmoved }; mode = B.controller.mode; up = B.controller.up };
+          console = record { numbers = record { next = console.given (f i).j; known = true; move = offered.unmoved }; mode = B.console.mode; up = B.console.up };
+          controller = record { numbers = record { next = controller.given (f i).i; known = known; move = offered.unmoved }; mode = B.controller.mode; up = B.controller.up };
           to_controller = B.to_controller;
           to_console = B.to_console;
         })
         ∙ λ i.
         record {
-          console = record { numbers = record { next = offering.next_given s i; known = true; move = offered.unmoved }; mode = B.console.mode; up = B.console.up };
-          controller = record { numbers = record { next = offering.next_given t i; known = known; move = offered.unmoved }; mode = B.controller.mode; up = B.controller.up };
+          console = record { numbers = record { next = given_j (U.next s) i; known = true; move = offered.unmoved }; mode = B.console.mode; up = B.console.up };
+          controller = record { numbers = record { next = given_i (U.next t) i; known = known; move = offered.unmoved }; mode = B.controller.mode; up = B.controller.up };
           to_controller = B.to_controller;
           to_console = B.to_console;
         }
 
     -- of the packet that R takes, `known` says what the controller's numbers say
-    taken_7 : (p : Option (ends.ToController (List ℕ))) → ends.unknown (U.used t) p ≡ o.unknown → ends.unknown (λ n. known) p ≡ ends.unknown (U.used t) p
+    taken_7 : (p : maybe.Option (ends.ToController (List ℕ))) → ends.unknown (U.used t) p ≡ o.unknown → ends.unknown (λ n. known) p ≡ ends.unknown (U.used t) p
     taken_7 p h = ap (λ (x : Bool). ends.unknown (λ n. not x) p) (sym h) ∙ unknown_by_offer (U.used t) p
 
     r_same : came ≡ came_out out b.sent a.place → ends.unknown (U.used t) (rules.at B.to_controller a.place) ≡ o.unknown
@@ -177,9 +189,9 @@ module _ {S : Type 0} {U : Supply S} (offering : Offering U) (b : Modes) (s t : 
       unfolding modes_moved
       there =
           let z = step_there (modes_means b o out back) refl refl is_message (action_of line a) in
-          let w = subst (λ (x : rules.Bench Offer (List ℕ)). (TakenOne x.console.numbers.move → ends.absent (given o.j.0) ≡ false) × (TakenOne x.controller.numbers.move → ends.absent (given o.i.0) ≡ false)) (sym after_is) z in
-          let p = ap (λ (x : Offered). ends.absent (given x.j.0)) f ∙ ap ends.absent (offering.next_given s) in
-          let q = ap (λ (x : Offered). ends.absent (given x.i.0)) f ∙ ap ends.absent (offering.next_given t) in
+          let w = subst (λ (x : rules.Bench Offer (List ℕ)). (TakenOne x.console.numbers.move → ends.absent (console.given o.j) ≡ false) × (TakenOne x.controller.numbers.move → ends.absent (controller.given o.i) ≡ false)) (sym after_is) z in
+          let p = ap (λ (x : Offered). ends.absent (console.given x.j)) f ∙ ap ends.absent (given_j (U.next s)) in
+          let q = ap (λ (x : Offered). ends.absent (controller.given x.i)) f ∙ ap ends.absent (given_i (U.next t)) in
           (λ h. sym p ∙ w.0 h, λ h. sym q ∙ w.1 h)
 
       -- what is told, with the numbers moved
@@ -226,7 +238,7 @@ module _ {S : Type 0} {U : Supply S} (offering : Offering U) (b : Modes) (s t : 
 
 -- copies above 3 are 10
 pub ten_so : {S : Type 0} (U : Supply S) (b : Modes) (s t : S) (ack : Bool) (out back : List ℕ) → WellWith U b s t out back → (line : Line) (a : Action) → Lined line → (line.copies && ltb 3 a.copies) ≡ true
-    → record { report = Refused 10; message = spaces; after = reading (with_numbers b s t out back) ack; out = out; back = back } ≡ step_with U b s t ack out back line a
+    → record { report = Refused TooManyCopies; message = spaces; after = reading (with_numbers b s t out back) ack; out = out; back = back } ≡ step_with U b s t ack out back line a
 unfolding step_with read_of read_step said ack_after action_of Lined line_of
 ten_so {S = S} U b s t ack out back k line a l many =
     let B = with_numbers b s t out back in
@@ -237,7 +249,7 @@ ten_so {S = S} U b s t ack out back k line a l many =
     let end = refusal (rules.end_rules U is_message B asked) in
     let ten = in_stages U is_message B (letter_of line) a.place a.copies a.message
     ∙ staged_10 (x.copies && ltb 3 a.copies) end (x.place && rules.missing (rules.takes (letter_of line)) B a.place) (x.copies && rules.no_room U B a.copies asked) flag in
-    (λ i. record { report = Refused 10; message = spaces; after = reading B ack; out = k.out_holds i; back = k.back_holds i })
+    (λ i. record { report = Refused TooManyCopies; message = spaces; after = reading B ack; out = k.out_holds i; back = k.back_holds i })
     ∙ ap (λ (o : rules.Outcome S (List ℕ)). read_of (read (use_by asked) ack o.report o.after)) (sym (step_refuses U is_message B A 10 ten (λ y. omega (arith, y))))
 
 pub few_so : (line : Line) (a : Action) {many : Bool} → Lined line → many ≡ (line.copies && ltb 3 a.copies) → many ≡ false → Few line a
@@ -274,11 +286,14 @@ module _ {S : Type 0} {U : Supply S} (offering : Offering U) (b : Modes) (s t : 
         console_by v = shown_so offering b s t out back k line a came c_came f told out' back' e ack n.lined (ap use_means v ∙ ap use_of (sym h))
 
         -- a refusal is shown as it is
-        pub console_refused_by : {m : ℕ} → told.report ≡ Refused m → By (as_it_is ack told) told out' back'
+        pub console_refused_by : {q : Refusal} → told.report ≡ Refused q → By (as_it_is ack told) told out' back'
         unfolding acked said ack_after
-        console_refused_by refuses =
+        console_refused_by {q} refuses =
             ap (λ (x : Shown). moved_with U s t x told out' back')
-            ((λ i. record { report = refuses i; ack = ack }) ∙ sym (ap (acked (use_means (ack_use ask)) ack) refuses)) ∙ console_by refl
+            ((λ i. record { report = refuses i; ack = ack })
+            ∙ (λ i. record { report = Refused (sym (refusal_of-number_of q) i); ack = ack })
+            ∙ sym (ap (acked (use_means (ack_use ask)) ack) refuses))
+            ∙ console_by refl
 
     module _ {ask : ControllerAsk} (h : line.asks ≡ asks.Controller ask) (c : (q : List ℕ) (m : ℕ) → came ≡ came_for (asks.Controller ask) out b.sent q m a.place) where
       abbrev d_came : came ≡ came_by line.asks
@@ -295,7 +310,7 @@ module _ {S : Type 0} {U : Supply S} (offering : Offering U) (b : Modes) (s t : 
         controller_by = kept_so offering b s t out back k line a came d_came f told out' back' e ack n.lined (ap use_of (sym h)) (subst Elsewhere (sym h) tt)
 
   -- no end is asked, and nothing came
-  module _ {o : Offered} (h : line.asks ≡ asks.NoEnd) (f : o ≡ offered_by U s t for-controller.Nothing) where
+  module _ {o : Offered} (h : line.asks ≡ asks.NoEnd) (f : o ≡ offered_by U s t None) where
     abbrev e_came : nothing_came ≡ came_for line.asks out b.sent back b.returned a.place
     e_came = line_came nothing_came f h refl
 

@@ -6,7 +6,7 @@ use mathlib.Core.Option.{some}
 use mathlib.Core.List.{List}
 use borrow.Author.Tests.{not-false}
 use Rattle.ground.specs.Cell.{is_message}
-use Rattle.ground.specs.Choice.{when◌then◌else◌}
+use Rattle.ground.specs.Choice.{chosen}
 use Rattle.ground.specs.First.{refusal, applies}
 use Rattle.rules.specs.Bears.{ConsoleBears, ControllerBears, ConsoleActBears, ControllerActBears, Any}
 use Rattle.rules.specs.Lists.{All, Opt}
@@ -76,7 +76,7 @@ handed b u d letters.a_ack k m = tt
 -- the message of a put that is not refused is good
 handed_good : (e : ends.Console Offer (List ℕ)) (act : ends.ConsoleAct (List ℕ)) → refusal (ends.console_rules offered is_message e act) ≡ 0 → ConsoleActBears (Number numbering) (Number numbering) Any act
     → ConsoleActBears (Number numbering) (Number numbering) (Good is_message) act
-unfolding ends.console_rules applies when◌then◌else◌
+unfolding ends.console_rules applies chosen
 handed_good e (ends.put m) q h = not-false (is_message m) (passed (ends.console_rules offered is_message e (ends.put m)) q 11 tt)
 handed_good e ends.send_need_i q h = tt
 handed_good e ends.send_data q h = tt

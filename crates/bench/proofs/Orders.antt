@@ -8,7 +8,7 @@ use mathlib.Core.List.{List, [], ◌∷◌, map}
 use lib.ListN.{length}
 use borrow.Author.Tests.{eq-eqb}
 use Rattle.ground.specs.Cell.{is_message}
-use Rattle.ground.specs.Choice.{when◌then◌else◌}
+use Rattle.ground.specs.Choice.{chosen}
 use Rattle.wire.specs.declared.I.{I}
 use Rattle.wire.specs.declared.J.{J}
 use Rattle.rules.specs.Supply.{Numbers, numbering, fresh_numbers}
@@ -54,7 +54,7 @@ back b = channel to_console_bytes b.history.to_console
 -- where the rules' bench stands, the promise's step is the rules' step
 pub step_of : (b : Here) → WellFormed numbering is_message b.history → (a : Action) (l : Letter) → letter a.letter ≡ some l
     → bench_step (bench_back b) a (out b) (back b) ≡ bench_told (read_step numbering is_message b (as_rules l a))
-unfolding bench_step when◌then◌else◌
+unfolding bench_step chosen
 step_of b w a l e = rw (e, stands_ok b w, stands_for b w)
 
 pub step_none : (b : Here) (a : Action) → letter a.letter ≡ none → bench_step (bench_back b) a (out b) (back b) ≡ bench_refused 1 (bench_back b) (out b) (back b)
@@ -189,7 +189,7 @@ shown_fill b (a ∷ l) = one (letter a.letter) (λ c. shown_fill c l)
 
 module _ (j : J) (i : I) (out₀ back₀ : List ℕ) (p : j.0 < 2 ^ 32) (q : i.0 < 2 ^ 32) (m : length out₀ ≡ 2048) (n : length back₀ ≡ 2048) (l : List Action) where
   fresh_is : bench_fresh j i out₀ back₀ ≡ bench_told (record { report = ends.nothing; after = fresh_rules j i })
-  unfolding bench_fresh when◌then◌else◌
+  unfolding bench_fresh chosen
   fresh_is = rw (eq-eqb (length out₀) 2048 m, eq-eqb (length back₀) 2048 n)
 
   fresh_ok : WellFormed numbering is_message (fresh_rules j i).history

@@ -6,13 +6,12 @@ use Prim.Native.Nat.{ℕ}
 use lib.Dec.{eqb}
 use lib.ListN.{length}
 use Rattle.ground.specs.Bytes.{Bytes}
-use Rattle.ground.specs.Choice.{when◌then◌else◌}
+use Rattle.ground.specs.Choice.{chosen}
 use Rattle.ground.proofs.Promise.{RefusalLeaves}
 use Rattle.ground.proofs.Tests.{by_test}
 use Rattle.wire.specs.declared.I.{I}
 use Rattle.wire.specs.declared.J.{J}
-use Rattle.ends.specs.AsRules.{number_in}
-use Rattle.ends.proofs.Reports.{IsRefused, its_number}
+use Rattle.ends.proofs.Reports.{IsRefused, its_refusal}
 use Rattle.bench.specs.Promise.{Result, bench_refused, bench_told, bench_fresh}
 use Rattle.bench.specs.Loaded.{Typed}
 use Rattle.bench.specs.declared.Bench.{Bench}
@@ -27,11 +26,12 @@ pub step_refusal_leaves : RefusalLeaves step-kinds.ps step-kinds.r step.Post
     {B = Bench × List ℕ × List ℕ} (λ κs a. (a.0, a.1.1.0.now, a.1.1.1.0.now)) (λ κs x s. (x.bench, s.1.1.0.now, s.1.1.1.0.now))
 unfolding bench_refused
 step_refusal_leaves κs a x s typed refused p =
-    let e = sym (ap (λ (r : Result). r.outcome.report) p) ∙ its_number x.report refused in
-    ap (λ (r : Result). (r.outcome.bench, r.out, r.back)) (p ∙ refused_same a.0 a.1.1.0.now a.1.1.1.0.now typed.0 typed.1 typed.2 a.1.0 (number_in x.report) e)
+    let q = its_refusal x.report refused in
+    let e = sym (ap (λ (r : Result). r.outcome.report) p) ∙ q.1 in
+    ap (λ (r : Result). (r.outcome.bench, r.out, r.back)) (p ∙ refused_same a.0 a.1.1.0.now a.1.1.1.0.now typed.0 typed.1 typed.2 a.1.0 q.0 e)
 
 fresh_left : (j : J) (i : I) (out back : List ℕ) → IsRefused (bench_fresh j i out back).outcome.report → ◌≡◌ {A = List ℕ × List ℕ} ((bench_fresh j i out back).out, (bench_fresh j i out back).back) (out, back)
-unfolding bench_fresh bench_told bench_refused when◌then◌else◌
+unfolding bench_fresh bench_told bench_refused chosen
 fresh_left j i out back =
     by_test (eqb (length out) 2048 && eqb (length back) 2048) (λ t r. absurd (rw t at r)) (λ f r. rw f)
 

@@ -1,12 +1,14 @@
 -- Whoever reads a line can tell its report: no two reports have the same two cells, and each cell stands at its place.
-use Prim.Native.Nat.{ℕ, ◌+◌, ◌-◌, ◌*◌, ◌/◌, ◌%◌, ◌<◌}
+use Prim.Native.Nat.{ℕ, ◌+◌, ◌-◌, ◌*◌, ◌/◌, ◌%◌}
 use mathlib.Core.Path.{◌≡◌, refl, sym, ap, ap₂, ◌∙◌}
 use mathlib.Core.List.{List, [], ◌∷◌}
 use native.Mathlib.Omega.{arith}
-use borrow.Author.Tests.{eq-eqb, ne_eqb}
+use borrow.Author.Tests.{ne_eqb}
 use lib.ListN.{length, get_or}
 use Rattle.ground.specs.Bytes.{field}
-use Rattle.ground.specs.Choice.{when◌then◌else◌}
+use Rattle.ground.specs.Choice.{chosen}
+use Rattle.ground.specs.Refusals.{number_of, refusal_of}
+use Rattle.ground.proofs.RefusalNumbers.{refusal_of-number_of, number_in_table}
 use Rattle.listing.specs.Line.{decimals, line_bytes}
 use Rattle.listing.proofs.LineWritten.{two_digits_are}
 use Rattle.listing.proofs.LineParts as parts
@@ -14,54 +16,34 @@ use Rattle.ends.specs.declared.Report.{Report}
 use Rattle.ends.specs.declared.Report.TheVariants as report
 use Rattle.bench.specs.Reports.{letter_cell, report_cells, cells_say, report_line}
 
--- ## What the code writes of a refusal
-
-module _ (r : Report) {n : ℕ} (e : r ≡ report.Refused n) where
-  pub letter_1 : (letter : ℕ) → n ≡ 1 → 0x3F ≡ letter_cell letter r
-  unfolding when◌then◌else◌
-  letter_1 letter h = rw (e, eq-eqb n 1 h)
-
-  pub letter_other : (letter : ℕ) → (n ≡ 1 → ⊥) → letter ≡ letter_cell letter r
-  unfolding when◌then◌else◌
-  letter_other letter h = rw (e, ne_eqb n 1 h)
-
-  pub refusal_cells : {x : List ℕ} → x ≡ decimals 2 n → x ≡ report_cells r
-  refusal_cells f = rw e f
-
-pub ruleset letter_cells = (letter_1, letter_other)
-
 -- ## The two cells
 
 abbrev pub said : List ℕ → Report
 said c = cells_say (get_or c 0 0) (get_or c 1 0)
 
 -- a digit is no cell of the four words
-pub refusal_said : (n : ℕ) → said (decimals 2 n) ≡ report.Refused (n % 100)
-unfolding cells_say when◌then◌else◌
+pub refusal_said : (n : ℕ) → said (decimals 2 n) ≡ report.Refused (refusal_of (n % 100))
+unfolding cells_say chosen
 refusal_said n =
     let x = 0x30 + n / 10 % 10 in
     let y = 0x30 + n % 10 in
     let e : 10 * (x - 0x30) + (y - 0x30) ≡ n % 100 = omega arith in
-    ap said (sym (two_digits_are n)) ∙ rw (ne_eqb x 0x44 (λ h. omega (arith, h)), ne_eqb x 0x4F (λ h. omega (arith, h)), ne_eqb x 0x4C (λ h. omega (arith, h)), ne_eqb x 0x2D (λ h. omega (arith, h))) (ap report.Refused e)
+    ap said (sym (two_digits_are n)) ∙ rw (ne_eqb x 0x44 (λ h. omega (arith, h)), ne_eqb x 0x4F (λ h. omega (arith, h)), ne_eqb x 0x4C (λ h. omega (arith, h)), ne_eqb x 0x2D (λ h. omega (arith, h))) (ap (λ (k : ℕ). report.Refused (refusal_of k)) e)
 
--- a refusal's number of two digits
-abbrev pub TwoDigits : Report → Type 0
-TwoDigits report.Nothing = Unit {0}
-TwoDigits report.Delivered = Unit {0}
-TwoDigits report.Ok = Unit {0}
-TwoDigits report.Lost = Unit {0}
-TwoDigits (report.Refused n) = n < 100
+pub report_said : (r : Report) → said (report_cells r) ≡ r
+unfolding cells_say chosen
+report_said report.Nothing = refl
+report_said report.Delivered = refl
+report_said report.Ok = refl
+report_said report.Lost = refl
+report_said (report.Refused q) =
+    let n = number_of q in
+    let low = (number_in_table q).1 in
+    let e : n % 100 ≡ n = omega (arith, low) in
+    refusal_said n ∙ ap report.Refused (ap refusal_of e ∙ refusal_of-number_of q)
 
-pub report_said : (r : Report) → TwoDigits r → said (report_cells r) ≡ r
-unfolding cells_say when◌then◌else◌
-report_said report.Nothing h = refl
-report_said report.Delivered h = refl
-report_said report.Ok h = refl
-report_said report.Lost h = refl
-report_said (report.Refused n) h = let e : n % 100 ≡ n = omega (arith, h) in refusal_said n ∙ ap report.Refused e
-
-pub cells_tell : (r t : Report) → TwoDigits r → TwoDigits t → report_cells r ≡ report_cells t → r ≡ t
-cells_tell r t p q e = sym (report_said r p) ∙ ap said e ∙ report_said t q
+pub cells_tell : (r t : Report) → report_cells r ≡ report_cells t → r ≡ t
+cells_tell r t e = sym (report_said r) ∙ ap said e ∙ report_said t
 
 -- ## A line's parts, with a message of 16 cells
 

@@ -1,5 +1,5 @@
 -- The runner's loop: the lines that are written, and those that are to come.
-use Prim.Native.Nat.{ℕ, zero, suc, ◌+◌, ◌-◌, ◌*◌, ◌/◌, ◌≤◌, ◌<◌}
+use Prim.Native.Nat.{ℕ, zero, suc, ◌+◌, ◌-◌, ◌*◌, ◌/◌, ◌≤◌, ◌<◌, min}
 use mathlib.Core.Path.{◌≡◌, refl, sym, ap, subst, ◌∙◌}
 use mathlib.Core.List.{List, [], ◌∷◌, ◌++◌, append-nil, append_assoc}
 use native.Mathlib.Omega.{arith}
@@ -7,8 +7,8 @@ use native.Mathlib.Nat.{not-suc-le-zero}
 use lib.Dec.{ltb}
 use lib.ListN.{length, get_or, take, drop, replicate, length-drop, length-append, take-append-drop, drop_of_length-le}
 use lib.Seq.{length-take-le, take_all, take_at, drop_at, drop-drop}
-use borrow.Author.Tests.{lt-ltb, le-ltb, ltb-true, ltb-false}
-use Rattle.ground.specs.Choice.{when◌then◌else◌}
+use borrow.Author.Tests.{ltb-true, ltb-false}
+use Rattle.ground.specs.Choice.{chosen}
 use Rattle.ground.proofs.Tests.{by_test}
 use Rattle.ground.specs.Cell.{is_message}
 use Rattle.rules.specs.Supply.{numbering, fresh_numbers}
@@ -42,7 +42,7 @@ records_none (suc m) = refl
 
 -- the record that begins at a place
 pub record_is : (s : List ℕ) (start : ℕ) {end : ℕ} → start < length s → end ≡ record_end start (length s) → part s start end ≡ take 21 (drop start s)
-unfolding record_end when◌then◌else◌
+unfolding record_end chosen
 record_is s start h e =
     let l = length-drop start s in
     by_test (ltb (length s) (start + 21))
@@ -66,18 +66,15 @@ line_long output n limit room h r l = part_length output (n * 27) (n * 27 + 27) 
 
 -- ## The limit
 
-pub limit_most : (room : ℕ) → 9999 < room / 27 → 9999 ≡ limit_of room
-unfolding limit_of when◌then◌else◌
-limit_most room h = rw (lt-ltb 9999 (room / 27) h)
-
-pub limit_room : (room : ℕ) → room / 27 ≤ 9999 → room / 27 ≡ limit_of room
-unfolding limit_of when◌then◌else◌
-limit_room room h = rw (le-ltb 9999 (room / 27) h)
-
-pub ruleset limits = (limit_most, limit_room)
+pub limit_is : (room : ℕ) → min (room / 27) 9999 ≡ limit_of room
+unfolding limit_of chosen
+limit_is room =
+    by_test (ltb 9999 (room / 27))
+    (λ y. let k = ltb-true 9999 (room / 27) y in rw y (omega (arith, k)))
+    (λ n. let k = ltb-false 9999 (room / 27) n in rw n (omega (arith, k)))
 
 pub limit_fits : (room : ℕ) → (limit_of room * 27 ≤ room) × (limit_of room ≤ 9999)
-unfolding limit_of when◌then◌else◌
+unfolding limit_of chosen
 limit_fits room =
     by_test (ltb 9999 (room / 27)) (λ y. let k = ltb-true 9999 (room / 27) y in rw y (omega (arith, k), omega arith))
     (λ n. let k = ltb-false 9999 (room / 27) n in rw n (omega (arith, k), omega (arith, k)))
@@ -169,9 +166,12 @@ module _ (all input before output : List ℕ) (limit n : ℕ) (b : Loaded) (out 
       let whole : output ≡ all ++ drop (length all) before = sym (take-append-drop (n * 27) output) ∙ (λ i. sym same i ++ v.1 i) ∙ ap (λ (m : ℕ). all ++ drop m before) number in
       λ i. record { number = number i; output = whole i }
 
-  pub over_limit : limit ≤ n → Along all input before limit n b output out back → n ≤ limit → limit * 27 ≤ length before → ◌≡◌ {A = Ran} (record { number = n * 27; output = output }) (at_front all before)
+  pub over_limit : limit ≤ n → n ≤ limit → Along all input before limit n b output out back → limit * 27 ≤ length before → ◌≡◌ {A = Ran} (record { number = limit * 27; output = output }) (at_front all before)
   unfolding records_of
-  over_limit q v h r = let f : limit - n ≡ 0 = omega (arith, q) in over (ap (λ (m : ℕ). records_of m (drop (n * 21) input)) f) v h r
+  over_limit q h v r =
+      let f : limit - n ≡ 0 = omega (arith, q) in
+      let same : limit ≡ n = omega (arith, q, h) in
+      (λ i. record { number = same i * 27; output = output }) ∙ over (ap (λ (m : ℕ). records_of m (drop (n * 21) input)) f) v h r
 
   pub over_input : length input ≤ n * 21 → Along all input before limit n b output out back → n ≤ limit → limit * 27 ≤ length before → ◌≡◌ {A = Ran} (record { number = n * 27; output = output }) (at_front all before)
   over_input q v h r = over (ap (records_of (limit - n)) (drop_of_length-le input {i = n * 21} q) ∙ records_none (limit - n)) v h r
@@ -205,5 +205,5 @@ ran_prefix input before after {n} h = sym (length-take-le n after (ran_fits inpu
 
 -- with room for 9,999 lines it is the whole output of the list program
 pub whole_list : (s : List ℕ) → list_lines (limit_of 269_973) s ≡ list_output s
-unfolding limit_of list_output when◌then◌else◌
+unfolding limit_of list_output chosen
 whole_list s = refl

@@ -1,13 +1,16 @@
 -- The public step and the fresh bench: the ways through them.
 use Prim.Native.Nat.{ℕ}
 use mathlib.Core.Path.{◌≡◌, refl, sym, ap, subst, ◌∙◌}
-use mathlib.Core.Bool.{Bool, true, false, not, ◌&&◌}
-use mathlib.Core.Option.{Option, none, some}
+use mathlib.Core.Bool.{Bool, true, false, ◌&&◌}
+use mathlib.Core.Option as maybe
 use mathlib.Core.List.{List}
 use lib.ListN.{length, replicate}
-use borrow.Author.Tests.{eq-eqb, ne_eqb, not-true, not-false}
+use borrow.Author.Tests.{eq-eqb, ne_eqb}
+use Rattle.ground.specs.declared.refusals.Refusal.TheVariants.{IllFormed}
+use Rattle.ground.specs.Refusals.{refusal_of}
+use Rattle.std.specs.Prelude.{Option, None, Some}
 use Rattle.ground.specs.Cell.{is_message, spaces}
-use Rattle.ground.specs.Choice.{when◌then◌else◌}
+use Rattle.ground.specs.Choice.{chosen}
 use Rattle.wire.specs.declared.I.{I}
 use Rattle.wire.specs.declared.J.{J}
 use Rattle.rules.specs.Supply.{numbering, Numbers}
@@ -20,18 +23,12 @@ use Rattle.wire.specs.declared.Direction.TheVariants.{ToController, ToConsole}
 use Rattle.letters.specs.Lines.{found_of, Lined}
 use Rattle.letters.proofs.Asking.{found_lined}
 use Rattle.letters.specs.declared.Line.{Line}
-use Rattle.letters.specs.declared.Found.{Found}
-use Rattle.letters.specs.declared.Found.TheVariants as found
 use Rattle.ends_console.specs.AsRules as console-rules
 use Rattle.ends_console.specs.Fields.{console_read, fresh_console}
-use Rattle.ends_console.specs.declared.End as console-end
-use Rattle.ends_console.specs.declared.fields.ConsoleRead.{ConsoleRead}
-use Rattle.ends_console.specs.declared.fields.ConsoleRead.TheVariants as console-read
+use Rattle.ends_console.specs.Types as console-end
 use Rattle.ends_controller.specs.AsRules as controller-rules
 use Rattle.ends_controller.specs.Fields.{controller_read, fresh_controller}
-use Rattle.ends_controller.specs.declared.End as controller-end
-use Rattle.ends_controller.specs.declared.fields.ControllerRead.{ControllerRead}
-use Rattle.ends_controller.specs.declared.fields.ControllerRead.TheVariants as controller-read
+use Rattle.ends_controller.specs.Types as controller-end
 use Rattle.ends_console.proofs.FieldsAsRules as console-fields
 use Rattle.ends_console.proofs.FieldsRead as console-read-fields
 use Rattle.ends_controller.proofs.FieldsAsRules as controller-fields
@@ -77,33 +74,33 @@ told_so t out back o e =
     ∙ λ i. record { outcome = record { report = (e i).report; message = (e i).message; bench = bench_back (e i).after }; out = (e i).out; back = (e i).back }
 
 abbrev refusing : ℕ → Bench → Outcome
-refusing n b = record { report = Refused n; message = spaces; bench = b }
+refusing n b = record { report = Refused (refusal_of n); message = spaces; bench = b }
 
 ill_so : {r : Outcome} (b : Bench) (line : Line) (a : Action) (out back : List ℕ) → bench_ok b out back ≡ false → r ≡ refusing 2 b → record { outcome = r; out = out; back = back } ≡ lined_step b line a out back
-unfolding lined_step bench_refused when◌then◌else◌
+unfolding lined_step bench_refused chosen
 ill_so b line a out back f q = (λ i. record { outcome = q i; out = out; back = back }) ∙ rw f
 
-module _ {read : ConsoleRead} (b : Bench) (e : read ≡ console_read b.console) where
-  pub console_ill : {r : Outcome} (line : Line) (a : Action) (out back : List ℕ) → read ≡ console-read.IllFormed → r ≡ refusing 2 b → record { outcome = r; out = out; back = back } ≡ lined_step b line a out back
+module _ {read : Option console-end.End} (b : Bench) (e : read ≡ console_read b.console) where
+  pub console_ill : {r : Outcome} (line : Line) (a : Action) (out back : List ℕ) → read ≡ None → r ≡ refusing 2 b → record { outcome = r; out = out; back = back } ≡ lined_step b line a out back
   unfolding bench_ok
   console_ill line a out back h q = ill_so b line a out back (rw (console-read-fields.not_read b.console (sym e ∙ h))) q
 
-  pub console_is : {x : console-end.End} → read ≡ console-read.Is x → console_read b.console ≡ console-read.Is x
+  pub console_is : {x : console-end.End} → read ≡ Some x → console_read b.console ≡ Some x
   console_is h = sym e ∙ h
 
-module _ {read : ControllerRead} (b : Bench) (e : read ≡ controller_read b.controller) where
-  pub controller_ill : {r : Outcome} (line : Line) (a : Action) (out back : List ℕ) → {x : console-end.End} → console_read b.console ≡ console-read.Is x → read ≡ controller-read.IllFormed → r ≡ refusing 2 b → record { outcome = r; out = out; back = back } ≡ lined_step b line a out back
+module _ {read : Option controller-end.End} (b : Bench) (e : read ≡ controller_read b.controller) where
+  pub controller_ill : {r : Outcome} (line : Line) (a : Action) (out back : List ℕ) → {x : console-end.End} → console_read b.console ≡ Some x → read ≡ None → r ≡ refusing 2 b → record { outcome = r; out = out; back = back } ≡ lined_step b line a out back
   unfolding bench_ok
   controller_ill line a out back k h q =
       ill_so b line a out back (rw ((console-read-fields.was_read b.console k).0, controller-read-fields.not_read b.controller (sym e ∙ h))) q
 
-  pub controller_is : {x : controller-end.End} → read ≡ controller-read.Is x → controller_read b.controller ≡ controller-read.Is x
+  pub controller_is : {x : controller-end.End} → read ≡ Some x → controller_read b.controller ≡ Some x
   controller_is h = sym e ∙ h
 
-module _ (b : Bench) (line : Line) (a : Action) (out back : List ℕ) {e : console-end.End} {f : controller-end.End} {ok : Bool} (r : console_read b.console ≡ console-read.Is e)
-    (s : controller_read b.controller ≡ controller-read.Is f) (t : ok ≡ (table_ok ToController b.sent out && table_ok ToConsole b.returned back)) where
-  pub tables_ill : {x : Outcome} → not ok ≡ true → x ≡ refusing 2 b → record { outcome = x; out = out; back = back } ≡ lined_step b line a out back
-  tables_ill n q = ill_so b line a out back (passes b out back r s t ∙ not-true ok n) q
+module _ (b : Bench) (line : Line) (a : Action) (out back : List ℕ) {e : console-end.End} {f : controller-end.End} {ok : Bool} (r : console_read b.console ≡ Some e)
+    (s : controller_read b.controller ≡ Some f) (t : ok ≡ (table_ok ToController b.sent out && table_ok ToConsole b.returned back)) where
+  pub tables_ill : {x : Outcome} → ok ≡ false → x ≡ refusing 2 b → record { outcome = x; out = out; back = back } ≡ lined_step b line a out back
+  tables_ill n q = ill_so b line a out back (passes b out back r s t ∙ n) q
 
   means_is : bench_reads b out back ≡ loaded_reads (loaded_of e b.console.ack b.console.message f b.sent b.returned) out back
   unfolding bench_means with_numbers loaded_of
@@ -117,37 +114,37 @@ module _ (b : Bench) (line : Line) (a : Action) (out back : List ℕ) {e : conso
         to_console = packets to_console_read b.returned back;
       }) b.console.ack
 
-  pub ends_step : {l : Loaded} (w : Stepped) {x : Outcome} {out' back' : List ℕ} → not ok ≡ false → l ≡ loaded_of e b.console.ack b.console.message f b.sent b.returned → stepped_as w out' back' ≡ loaded_step l out back line a
+  pub ends_step : {l : Loaded} (w : Stepped) {x : Outcome} {out' back' : List ℕ} → ok ≡ true → l ≡ loaded_of e b.console.ack b.console.message f b.sent b.returned → stepped_as w out' back' ≡ loaded_step l out back line a
       → x ≡ outcome_of w → record { outcome = x; out = out'; back = back' } ≡ lined_step b line a out back
-  unfolding lined_step step_with action_of when◌then◌else◌
+  unfolding lined_step step_with action_of chosen
   ends_step {l} w {x} {out'} {back'} n g h q =
       (λ j. record { outcome = q j; out = out'; back = back' })
       ∙ told_so w out' back' (read_step numbering is_message (bench_reads b out back) (action_of line a))
       (h ∙ ap (λ (y : Loaded). loaded_step y out back line a) g ∙ ap (λ (y : Reading (rules.Bench Numbers (List ℕ))). read_of (read_step numbering is_message y (action_of line a))) (sym means_is))
-      ∙ rw (passes b out back r s t, not-false ok n)
+      ∙ rw (passes b out back r s t, n)
 
 -- ## The step
 
-found_none : (o : Option letters.Letter) → found_of o ≡ found.Nothing → o ≡ none
-found_none none e = refl
-found_none (some l) e = absurd (subst IsLine e tt)
+found_none : (o : maybe.Option letters.Letter) → found_of o ≡ None → o ≡ maybe.none
+found_none maybe.none e = refl
+found_none (maybe.some l) e = absurd (subst IsLine e tt)
   where
-    IsLine : Found → Type 0
-    IsLine f = elim f [ found.Nothing ↦ ⊥ | found.Line l ↦ Unit {0} ]
+    IsLine : Option Line → Type 0
+    IsLine f = elim f [ None ↦ ⊥ | Some l ↦ Unit {0} ]
 
-module _ {f : Found} (b : Bench) (a : Action) (e : f ≡ found_of (letter a.letter)) where
-  pub lined_so : {line : Line} → f ≡ found.Line line → Lined line
+module _ {f : Option Line} (b : Bench) (a : Action) (e : f ≡ found_of (letter a.letter)) where
+  pub lined_so : {line : Line} → f ≡ Some line → Lined line
   lined_so h = (found_lined (letter a.letter) (sym e ∙ h)).1
 
-  pub step_unknown : {r : Outcome} (out back : List ℕ) → f ≡ found.Nothing → r ≡ refusing 1 b → record { outcome = r; out = out; back = back } ≡ bench_step b a out back
+  pub step_unknown : {r : Outcome} (out back : List ℕ) → f ≡ None → r ≡ refusing 1 b → record { outcome = r; out = out; back = back } ≡ bench_step b a out back
   unfolding bench_step bench_refused
   step_unknown out back h q =
       (λ i. record { outcome = q i; out = out; back = back })
-      ∙ ap (λ (o : Option letters.Letter). step_of o b a out back) (sym (found_none (letter a.letter) (sym e ∙ h)))
+      ∙ ap (λ (o : maybe.Option letters.Letter). step_of o b a out back) (sym (found_none (letter a.letter) (sym e ∙ h)))
 
-  pub step_lined : {line : Line} {x : Result} (out back : List ℕ) → f ≡ found.Line line → x ≡ lined_step b line a out back → x ≡ bench_step b a out back
+  pub step_lined : {line : Line} {x : Result} (out back : List ℕ) → f ≡ Some line → x ≡ lined_step b line a out back → x ≡ bench_step b a out back
   unfolding bench_step lined_step
-  step_lined out back h q = q ∙ ap (λ (o : Option letters.Letter). step_of o b a out back) (sym (found_lined (letter a.letter) (sym e ∙ h)).0)
+  step_lined out back h q = q ∙ ap (λ (o : maybe.Option letters.Letter). step_of o b a out back) (sym (found_lined (letter a.letter) (sym e ∙ h)).0)
 
 -- ## Fresh
 
@@ -156,25 +153,25 @@ module _ {c : Console} {d : Controller} (j : J) (i : I) (out back : List ℕ) (e
   unfolding bench_back rules.fresh
   bench_is = λ k. record { console = e k; controller = f k; sent = 0; returned = 0 }
 
-  pub fresh_out_ill : {r : Outcome} → (length out ≡ 2048 → ⊥) → r ≡ record { report = Refused 2; message = spaces; bench = record { console = c; controller = d; sent = 0; returned = 0 } }
+  pub fresh_out_ill : {r : Outcome} → (length out ≡ 2048 → ⊥) → r ≡ record { report = Refused IllFormed; message = spaces; bench = record { console = c; controller = d; sent = 0; returned = 0 } }
       → record { outcome = r; out = out; back = back } ≡ bench_fresh j i out back
-  unfolding bench_fresh bench_refused when◌then◌else◌
+  unfolding bench_fresh bench_refused chosen
   fresh_out_ill n q =
       (λ k. record { outcome = q k; out = out; back = back })
-      ∙ (λ k. record { outcome = record { report = Refused 2; message = spaces; bench = bench_is k }; out = out; back = back })
+      ∙ (λ k. record { outcome = record { report = Refused IllFormed; message = spaces; bench = bench_is k }; out = out; back = back })
       ∙ rw (ne_eqb (length out) 2048 n)
 
-  pub fresh_back_ill : {r : Outcome} → length out ≡ 2048 → (length back ≡ 2048 → ⊥) → r ≡ record { report = Refused 2; message = spaces; bench = record { console = c; controller = d; sent = 0; returned = 0 } }
+  pub fresh_back_ill : {r : Outcome} → length out ≡ 2048 → (length back ≡ 2048 → ⊥) → r ≡ record { report = Refused IllFormed; message = spaces; bench = record { console = c; controller = d; sent = 0; returned = 0 } }
       → record { outcome = r; out = out; back = back } ≡ bench_fresh j i out back
-  unfolding bench_fresh bench_refused when◌then◌else◌
+  unfolding bench_fresh bench_refused chosen
   fresh_back_ill m n q =
       (λ k. record { outcome = q k; out = out; back = back })
-      ∙ (λ k. record { outcome = record { report = Refused 2; message = spaces; bench = bench_is k }; out = out; back = back })
+      ∙ (λ k. record { outcome = record { report = Refused IllFormed; message = spaces; bench = bench_is k }; out = out; back = back })
       ∙ rw (eq-eqb (length out) 2048 m, ne_eqb (length back) 2048 n)
 
   pub fresh_does : {out' back' : List ℕ} → length out ≡ 2048 → length back ≡ 2048 → out' ≡ replicate (length out) 0 → back' ≡ replicate (length back) 0
       → record { outcome = record { report = Nothing; message = spaces; bench = record { console = c; controller = d; sent = 0; returned = 0 } }; out = out'; back = back' } ≡ bench_fresh j i out back
-  unfolding bench_fresh bench_told rules.fresh when◌then◌else◌
+  unfolding bench_fresh bench_told rules.fresh chosen
   fresh_does m n p q =
       (λ k.
       record {

@@ -1,18 +1,15 @@
--- What a step leaves where the rules' bench stands: such a bench again, the same one on a refusal; 16 cells beside its report; and a refusal's number
--- from 1 to 15.
-use Prim.Native.Nat.{ℕ, ◌≤◌}
+-- What a step leaves where the rules' bench stands: such a bench again, the same one on a refusal; 16 cells beside its report.
+use Prim.Native.Nat.{ℕ}
 use mathlib.Core.Path.{◌≡◌, refl, sym, ap, subst, ◌∙◌}
 use mathlib.Core.Bool.{Bool, true}
 use mathlib.Core.Option.{Option, none, some}
-use mathlib.Core.List.{List, [], ◌∷◌, map}
-use native.Mathlib.Omega.{arith}
-use borrow.Author.Tests.{eqb-true, leb-true}
-use lib.Dec.{eqb, leb}
+use mathlib.Core.List.{List}
+use borrow.Author.Tests.{eqb-true}
+use lib.Dec.{eqb}
 use lib.ListN.{length}
+use Rattle.ground.specs.declared.refusals.Refusal.{Refusal}
 use Rattle.ground.specs.Cell.{cells, is_message}
-use Rattle.ground.specs.Every.{every}
-use Rattle.ground.specs.First.{Rule, first, applies, refusal_order, refusal}
-use Rattle.ground.proofs.Tests.{and_left, and_right}
+use Rattle.ground.proofs.Tests.{and_left}
 use Rattle.rules.specs.Supply.{numbering, Numbers}
 use Rattle.rules.specs.Letters as letters
 use Rattle.rules.specs.Letters.{Letter, letter}
@@ -22,15 +19,13 @@ use Rattle.rules.specs.Reading.{Use, use_by, ack_after, reading, read_step}
 use Rattle.ends_console.proofs.ShownReport.{refused_below}
 use Rattle.rules.specs.Lists.{Opt}
 use Rattle.rules.specs.WellFormed.{WellFormed, ToControllerOk}
-use Rattle.rules.proofs.Bench.{step_refused, step_refused_same}
+use Rattle.rules.proofs.Bench.{step_refused_same}
 use Rattle.rules.proofs.Ends.{console_reports}
 use Rattle.rules.proofs.Lists.{all_at, if_holds}
 use Rattle.rules.proofs.Supply.{numbering_lawful}
 use Rattle.rules.proofs.WellFormed.{step_well_formed}
-use Rattle.ends.specs.AsRules.{number_in, delivered}
-use Rattle.ends.specs.declared.Report.{Report}
+use Rattle.ends.specs.AsRules.{delivered}
 use Rattle.ends.specs.declared.Report.TheVariants as report
-use Rattle.bench.proofs.Reports.{TwoDigits}
 use Rattle.bench.specs.AsRules.{bench_back}
 use Rattle.bench.specs.Promise.{Result, bench_refused, bench_told, bench_step}
 use Rattle.bench.specs.Orders.{as_rules}
@@ -94,19 +89,6 @@ module _ (b : rules.Bench Numbers (List ℕ)) (w : WellFormed numbering is_messa
   step_long a =
       if_holds (λ (o : rules.Outcome Numbers (List ℕ)). Long o.report) _ _ _ (λ e. effect_long a.letter a.place a.copies a.message) (λ e. refl)
 
--- ## A refusal's number
-
-module _ (f : ℕ → Bool) where
-  first_low : (ns : List ℕ) → every (λ n. leb n 15) ns ≡ true → first (map (λ n. (n, f n)) ns) ≤ 15
-  unfolding first
-  first_low [] h = omega arith
-  first_low (n ∷ ns) h =
-      if_holds (λ k. k ≤ 15) (f n) n (first (map (λ n. (n, f n)) ns)) (λ e. leb-true n 15 (and_left (leb n 15) _ h)) (λ e. first_low ns (and_right (leb n 15) _ h))
-
-refusal_low : (rs : List Rule) → refusal rs ≤ 15
-unfolding refusal
-refusal_low rs = first_low (applies rs) refusal_order refl
-
 -- ## What a step leaves
 
 -- with a refusal the bench and the ack stay
@@ -121,8 +103,7 @@ pub record Leaves (b : Here) (r : Result) : Type 0 where
   pub out_is : r.out ≡ out after
   pub back_is : r.back ≡ back after
   pub long : length r.outcome.message ≡ 16
-  pub kept : (n : ℕ) → r.outcome.report ≡ report.Refused n → after ≡ b
-  pub numbered : (n : ℕ) → r.outcome.report ≡ report.Refused n → (1 ≤ n) × (n ≤ 15)
+  pub kept : (q : Refusal) → r.outcome.report ≡ report.Refused q → after ≡ b
 
 module _ (b : Here) (w : WellFormed numbering is_message b.history) where
   refused_leaves : Leaves b (bench_refused 1 (bench_back b) (out b) (back b))
@@ -135,8 +116,7 @@ module _ (b : Here) (w : WellFormed numbering is_message b.history) where
         out_is = refl;
         back_is = refl;
         long = refl;
-        kept = λ n e. refl;
-        numbered = λ n e. let q : 1 ≡ n = ap number_in e in (omega (arith, q), omega (arith, q));
+        kept = λ q e. refl;
       }
 
   told_leaves : (a : rules.Action (List ℕ)) → Leaves b (bench_told (read_step numbering is_message b a))
@@ -152,12 +132,7 @@ module _ (b : Here) (w : WellFormed numbering is_message b.history) where
         out_is = refl;
         back_is = refl;
         long = sym (ap length (said_message u b.ack o.report)) ∙ step_long B w a;
-        kept = λ n e. let r = refused_below u b.ack o.report n e in refusal_keeps u b.ack r (step_refused_same numbering is_message B a n r);
-        numbered =
-            λ n e.
-            let q = (step_refused numbering is_message B a n).0 (refused_below u b.ack o.report n e) in
-            let low = refusal_low (rules.rules_of numbering is_message B a) in
-            (omega (arith, q.1), omega (arith, q.0, low));
+        kept = λ q e. let r = refused_below u b.ack o.report q e in refusal_keeps u b.ack r.1 (step_refused_same numbering is_message B a r.0 r.1);
       }
 
   pub step_leaves : (a : Action) → Leaves b (bench_step (bench_back b) a (out b) (back b))
@@ -166,14 +141,3 @@ module _ (b : Here) (w : WellFormed numbering is_message b.history) where
       of_letter : (o : Option Letter) → letter a.letter ≡ o → Leaves b (bench_step (bench_back b) a (out b) (back b))
       of_letter none e = subst (Leaves b) (sym (step_none b a e)) refused_leaves
       of_letter (some l) e = subst (Leaves b) (sym (step_of b w a l e)) (told_leaves (as_rules l a))
-
--- so that its two cells in a line are those of no other report (Reports.antt)
-two_digits : (r : Report) → ((n : ℕ) → r ≡ report.Refused n → (1 ≤ n) × (n ≤ 15)) → TwoDigits r
-two_digits report.Nothing h = tt
-two_digits report.Delivered h = tt
-two_digits report.Ok h = tt
-two_digits report.Lost h = tt
-two_digits (report.Refused n) h = let k = (h n refl).1 in omega (arith, k)
-
-pub step_two_digits : (b : Here) → WellFormed numbering is_message b.history → (a : Action) → TwoDigits (bench_step (bench_back b) a (out b) (back b)).outcome.report
-step_two_digits b w a = two_digits _ (step_leaves b w a).numbered

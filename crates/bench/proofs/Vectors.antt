@@ -4,11 +4,12 @@ use mathlib.Core.Path.{◌≡◌, refl}
 use mathlib.Core.Bool.{true, false}
 use mathlib.Core.List.{List, [], ◌∷◌, ◌++◌, map}
 use lib.ListN.{replicate}
+use Rattle.ground.specs.Refusals.{refusal_of}
 use Rattle.ground.specs.Cell.{cells, is_message, spaces}
-use Rattle.ground.specs.Choice.{when◌then◌else◌}
+use Rattle.ground.specs.Choice.{chosen}
 use Rattle.ground.specs.Every.{filled}
 use Rattle.wire.specs.Number.{bytes_of, value}
-use Rattle.wire.specs.Packet.{is_blank, packet_bytes, head_of, head_at, read_refusal, packet_read}
+use Rattle.wire.specs.Packet.{is_blank, packet_bytes, head_of, head_at, read_refusal, head_read}
 use Rattle.rules.specs.Letters.{letters, among, letter}
 use Rattle.rules.specs.Ends.{ToController, need_i, order, done, ToConsole, offer, ok}
 use Rattle.rules.specs.Bench as rules
@@ -34,8 +35,8 @@ use Rattle.bench.specs.declared.Bench.{Bench}
 -- for proofs: `unfolding computes` opens all that a step is made of
 unfoldable pub computes : Unit {0}
 unfolding bench_step bench_fresh bench_refused bench_told bench_back bench_means bench_ok console_ok console_mode controller_ok controller_mode table_ok
-    heads_pass packets channel laid to_controller_bytes to_controller_read to_console_bytes to_console_read packet_bytes packet_read read_refusal head_at head_of
-    value bytes_of is_blank is_message cells filled letters among letter rules.rules readings numbers_rules when◌then◌else◌
+    heads_pass packets channel laid to_controller_bytes to_controller_read to_console_bytes to_console_read packet_bytes head_read read_refusal head_at head_of
+    value bytes_of is_blank is_message cells filled letters among letter rules.rules readings numbers_rules chosen
 computes = tt
 
 -- ## Benches and actions
@@ -66,6 +67,9 @@ act letter place copies message = record { letter = letter; place = place; copie
 abbrev row : ℕ → List ℕ
 row b = b ∷ replicate 15 0x41
 
+abbrev refused : ℕ → Report
+refused n = report.Refused (refusal_of n)
+
 abbrev Case : Type 0
 Case = Bench × Action × List ℕ × List ℕ
 
@@ -91,7 +95,7 @@ tables_ill : map tells
     ∷ meets idle free 0 1 clear (out (done 1 ∷ []))
     ∷ (bench idle free 65 65, act 0x63 64 4 (row 0x7F), [], [])
     ∷ [])
-    ≡ map report.Refused (2 ∷ 2 ∷ 2 ∷ 2 ∷ 2 ∷ 2 ∷ 2 ∷ 2 ∷ 2 ∷ 2 ∷ 1 ∷ [])
+    ≡ map refused (2 ∷ 2 ∷ 2 ∷ 2 ∷ 2 ∷ 2 ∷ 2 ∷ 2 ∷ 2 ∷ 2 ∷ 1 ∷ [])
 unfolding computes
 tables_ill = refl
 
@@ -119,7 +123,7 @@ ends_ill : map (λ (e : Console × Controller). tells (meets e.0 e.1 0 0 clear c
     ∷ (idle, has 1 4 0)
     ∷ (idle, has 0 0 4)
     ∷ [])
-    ≡ replicate 12 (report.Refused 2)
+    ≡ replicate 12 (refused 2)
 unfolding computes
 ends_ill = refl
 
@@ -139,7 +143,7 @@ numbers_ill : map (λ (e : Console × Controller). tells (meets e.0 e.1 0 0 clea
     ∷ (idle, free_with 65 64 64)
     ∷ (idle_with 3 64 1, free_with 3 64 1024)
     ∷ [])
-    ≡ replicate 6 (report.Refused 2) ++ report.Nothing ∷ []
+    ≡ replicate 6 (refused 2) ++ report.Nothing ∷ []
 unfolding computes
 numbers_ill = refl
 
@@ -179,7 +183,7 @@ console_refuses : map told
     ∷ (idle, act 0x53 0 3 spaces)
     ∷ (idle, act 0x56 0 0 spaces)
     ∷ [])
-    ≡ map report.Refused (11 ∷ 11 ∷ 11 ∷ 4 ∷ 6 ∷ 8 ∷ 10 ∷ 10 ∷ 10 ∷ 4 ∷ 6 ∷ 10 ∷ 4 ∷ 3 ∷ 5 ∷ [])
+    ≡ map refused (11 ∷ 11 ∷ 11 ∷ 4 ∷ 6 ∷ 8 ∷ 10 ∷ 10 ∷ 10 ∷ 4 ∷ 6 ∷ 10 ∷ 4 ∷ 3 ∷ 5 ∷ [])
 unfolding computes
 console_refuses = refl
 
@@ -209,7 +213,7 @@ no_room : map tells
     ∷ full asking (need_i 3) (act 0x52 64 1 spaces)
     ∷ full asking (need_i 3) (act 0x4C 64 0 spaces)
     ∷ [])
-    ≡ map report.Refused (9 ∷ 6 ∷ 9 ∷ 7 ∷ 3 ∷ 3 ∷ [])
+    ≡ map refused (9 ∷ 6 ∷ 9 ∷ 7 ∷ 3 ∷ 3 ∷ [])
 unfolding computes
 no_room = refl
 
@@ -260,6 +264,6 @@ unfolding computes
 fresh_clears = refl
 
 fresh_ill : bench_fresh (record { 0 = spent }) (record { 0 = 3 }) (replicate 2048 7) (replicate 2047 8)
-    ≡ record { outcome = record { report = report.Refused 2; message = spaces; bench = begun }; out = replicate 2048 7; back = replicate 2047 8 }
+    ≡ record { outcome = record { report = refused 2; message = spaces; bench = begun }; out = replicate 2048 7; back = replicate 2047 8 }
 unfolding computes
 fresh_ill = refl

@@ -2,11 +2,14 @@
 use Prim.Native.Nat.{ℕ}
 use mathlib.Core.Path.{◌≡◌, refl, sym, ap, subst, ◌∙◌}
 use mathlib.Core.Bool.{Bool, true, false, not, ◌&&◌, true≢false}
-use mathlib.Core.Option.{Option}
+use mathlib.Core.Option as maybe
 use mathlib.Core.List.{List, [], ◌∷◌}
 use lib.Dec.{eqb, ltb}
 use borrow.Author.Tests.{eqb-true}
-use Rattle.ground.specs.Choice.{when◌then◌else◌}
+use Rattle.ends_controller.specs.AsRules as controller
+use Rattle.ends_console.specs.AsRules as console
+use Rattle.std.specs.Prelude.{Option}
+use Rattle.ground.specs.Choice.{chosen}
 use Rattle.ground.specs.First.{refusal, first, applies}
 use Rattle.ground.proofs.Tests.{by_test}
 use Rattle.rules.specs.Letters as letters
@@ -21,7 +24,7 @@ use Rattle.letters.specs.declared.ConsoleAsk.{ConsoleAsk}
 use Rattle.letters.specs.declared.ControllerAsk.{ControllerAsk}
 use Rattle.letters.specs.declared.Line.{Line}
 use Rattle.ends.specs.AsRules.{Beside, for_controller}
-use Rattle.ends.specs.declared.ForController.{ForController}
+use Rattle.ends.specs.declared.ToController.{ToController}
 use Rattle.ends_controller.proofs.Decisions.{known}
 use Rattle.bench.specs.Arriving.{came_out, came_for}
 use Rattle.bench.specs.ByModes.{Known, Offers, Arrived, Few, modes_moved, modes_means, staged_7, all_known, OnConsole, OnController, OnLosing}
@@ -35,11 +38,11 @@ use Rattle.bench.proofs.RefusedByModes.{out_held, back_held}
 -- ## 7
 
 staged_0 : (n : ℕ) → n ≡ staged_7 n false
-unfolding when◌then◌else◌
+unfolding chosen
 staged_0 n = by_test (eqb n 0) (λ t. rw t (eqb-true n 0 t)) (λ f. rw f)
 
 -- of what is not a packet for the controller nothing is unknown
-quiet : (u : Bool) (n : ℕ) → ends.unknown {M = Beside} (λ n. not u) Option.none ≡ u → n ≡ staged_7 n u
+quiet : (u : Bool) (n : ℕ) → ends.unknown {M = Beside} (λ n. not u) maybe.Option.none ≡ u → n ≡ staged_7 n u
 unfolding ends.unknown
 quiet u n e = staged_0 n ∙ ap (staged_7 n) e
 
@@ -47,13 +50,13 @@ abbrev taking : Bool → Bool → ℕ
 taking up unknown = refusal (ends.down_4 up ∷ (7, unknown) ∷ [])
 
 taking_7 : (up u : Bool) → taking up u ≡ staged_7 (taking up false) u
-unfolding refusal first applies when◌then◌else◌
+unfolding refusal first applies chosen
 taking_7 true true = refl
 taking_7 true false = refl
 taking_7 false true = refl
 taking_7 false false = refl
 
-take_7 : (u : Bool) (p : ForController) → ends.unknown (λ n. not u) (for_controller p) ≡ u → (e : ends.Controller Offer) → e.numbers.known ≡ not u
+take_7 : (u : Bool) (p : Option ToController) → ends.unknown (λ n. not u) (for_controller p) ≡ u → (e : ends.Controller Offer) → e.numbers.known ≡ not u
     → refusal (ends.controller_rules offered e (ends.ControllerAct.take (for_controller p))) ≡ staged_7 (refusal (ends.controller_rules offered (all_known e) (ends.ControllerAct.take (for_controller p)))) u
 unfolding ends.controller_rules
 take_7 u p h e k =
@@ -84,8 +87,8 @@ module _ (b : Modes) (o : Offered) (out back : List ℕ) (a : Action) (k : Known
   loud : {A : Type 0} (l : letters.Letter) → (line_of l).copies ≡ true → (line_of l).copies ≡ false → A
   loud l t f = absurd (true≢false (sym t ∙ f))
 
-  by_letter : (l : letters.Letter) → FewOf l → Unknown (came_to l) → Offers o.j.0 → Offers o.i.0 → Relied (line_of l) (came_to l) (line_of l).asks
-  unfolding Lined line_of letters.line rules.asks rules.takes when◌then◌else◌ ends.console_acts ends.console_turn ends.controller_acts ends.controller_turn ends.controller_rules modes_moved
+  by_letter : (l : letters.Letter) → FewOf l → Unknown (came_to l) → Offers (console.given o.j) → Offers (controller.given o.i) → Relied (line_of l) (came_to l) (line_of l).asks
+  unfolding Lined line_of letters.line rules.asks rules.takes chosen ends.console_acts ends.console_turn ends.controller_acts ends.controller_turn ends.controller_rules modes_moved
   by_letter letters.p_put f u oj oi = record { begun = record { lined = refl; few = f }; offers = oj; asks = refl; takes = refl; message = refl; silent = λ _ e. puts_sends _ _ _ }
   by_letter letters.q_need f u oj oi = record { begun = record { lined = refl; few = f }; offers = oj; asks = refl; takes = refl; message = refl; silent = λ t. loud letters.q_need refl t }
   by_letter letters.d_data f u oj oi = record { begun = record { lined = refl; few = f }; offers = oj; asks = refl; takes = refl; message = refl; silent = λ t. loud letters.d_data refl t }
@@ -93,7 +96,7 @@ module _ (b : Modes) (o : Offered) (out back : List ℕ) (a : Action) (k : Known
       record {
         begun = record { lined = refl; few = f };
         offers = oj;
-        asks = ap (λ (p : Option ends.ToConsole). rules.Asked.console (ends.ConsoleAct.take p)) (sym (back_is (modes_means b o out back).to_console back b.returned a.place (back_held b out back k)));
+        asks = ap (λ (p : maybe.Option ends.ToConsole). rules.Asked.console (ends.ConsoleAct.take p)) (sym (back_is (modes_means b o out back).to_console back b.returned a.place (back_held b out back k)));
         takes = refl;
         message = refl;
         silent = λ t. loud letters.s_take refl t;
@@ -106,7 +109,7 @@ module _ (b : Modes) (o : Offered) (out back : List ℕ) (a : Action) (k : Known
       record {
         begun = record { lined = refl; few = f };
         offers = oi;
-        asks = ap (λ (p : Option (ends.ToController (List ℕ))). rules.Asked.controller (ends.ControllerAct.take p)) (sym (out_is (modes_means b o out back).to_controller out b.sent a.place (out_held b out back k)));
+        asks = ap (λ (p : maybe.Option (ends.ToController (List ℕ))). rules.Asked.controller (ends.ControllerAct.take p)) (sym (out_is (modes_means b o out back).to_controller out b.sent a.place (out_held b out back k)));
         takes = refl;
         silent = λ t. loud letters.r_take refl t;
         seven = take_7 o.unknown (came_out out b.sent a.place).controller u;

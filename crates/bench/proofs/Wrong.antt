@@ -10,8 +10,10 @@ use borrow.Author.Tests.{eq-eqb}
 use contract.Lifetimes.{Lfts}
 use borrow.Fn.Kinds.{Dens, ended_of}
 use denote.Triple.Clauses.{AtExit}
+use Rattle.ground.specs.declared.refusals.Refusal.TheVariants.{IllFormed, NoPlace, NoRoom, TooManyCopies}
+use Rattle.ground.specs.declared.refusals.Refusal.{Refusal}
 use Rattle.ground.specs.Cell.{spaces}
-use Rattle.ground.specs.Choice.{when◌then◌else◌}
+use Rattle.ground.specs.Choice.{chosen}
 use Rattle.ground.proofs.Promise.{RulesOut}
 use Rattle.wire.specs.declared.I.{I}
 use Rattle.wire.specs.declared.J.{J}
@@ -36,7 +38,7 @@ use Rattle.bench.proofs.fresh.Kinds as fresh-kinds
 use Rattle.bench.proofs.fresh.Reads as fresh
 use Rattle.bench.proofs.Vectors.{computes}
 
-no_refusal : (n : ℕ) → report.Nothing ≡ report.Refused n → ⊥
+no_refusal : (q : Refusal) → report.Nothing ≡ report.Refused q → ⊥
 no_refusal n e = let z : ◌≡◌ {A = ℕ} 0 1 = cc in omega (arith, z)
 
 no_ok : report.Nothing ≡ report.Ok → ⊥
@@ -79,7 +81,7 @@ module _ (κs : Lfts 2) (a : Dens κs step-kinds.ps) (x : Outcome) (s : AtExit (
   so : ◌≡◌ {A = Result} (record { outcome = x; out = s.1.1.0.now; back = s.1.1.1.0.now }) (record { outcome = asked; out = needed; back = clear })
   so = meets ∙ (λ i. bench_step (bench i) (does i) (out i) (back i)) ∙ sends
 
-  pub step_always_refuses : (n : ℕ) → x.report ≡ report.Refused n → ⊥
+  pub step_always_refuses : (q : Refusal) → x.report ≡ report.Refused q → ⊥
   step_always_refuses n e = no_refusal n (sym (ap (λ (r : Result). r.outcome.report) so) ∙ e)
 
   -- a packet sent is no answer
@@ -97,11 +99,11 @@ module _ (κs : Lfts 2) (a : Dens κs step-kinds.ps) (x : Outcome) (s : AtExit (
 -- ## Fresh: with tables of 2,048 bytes
 
 fresh_clears : (j : J) (i : I) (out back : List ℕ) → length out ≡ 2048 → length back ≡ 2048 → ((bench_fresh j i out back).outcome.report ≡ report.Nothing) × ((bench_fresh j i out back).out ≡ clear) × ((bench_fresh j i out back).back ≡ clear)
-unfolding bench_fresh bench_told rules.fresh channel laid when◌then◌else◌
+unfolding bench_fresh bench_told rules.fresh channel laid chosen
 fresh_clears j i out back m n = rw (eq-eqb (length out) 2048 m, eq-eqb (length back) 2048 n) (refl, refl, refl)
 
 module _ (κs : Lfts 2) (a : Dens κs fresh-kinds.ps) (x : Outcome) (s : AtExit (ended_of 2 fresh-kinds.ps fresh-kinds.r) κs) (out_long : length a.1.1.0.now ≡ 2048) (back_long : length a.1.1.1.0.now ≡ 2048) (meets : fresh.Post κs a x s) where
-  pub fresh_always_refuses : (n : ℕ) → x.report ≡ report.Refused n → ⊥
+  pub fresh_always_refuses : (q : Refusal) → x.report ≡ report.Refused q → ⊥
   fresh_always_refuses n e =
       no_refusal n (sym (ap (λ (r : Result). r.outcome.report) meets ∙ (fresh_clears a.0 a.1.0 a.1.1.0.now a.1.1.1.0.now out_long back_long).0) ∙ e)
 
@@ -154,23 +156,23 @@ reports_other b a out back r differ κs d x s e w p =
 -- L0 on a fresh bench is 3: no place is below the count
 pub step_place_off_by_one : Reports started (act 0x4C 0 0) clear clear report.Nothing
 unfolding computes
-step_place_off_by_one = reports_other started (act 0x4C 0 0) clear clear report.Nothing (no_refusal 3)
+step_place_off_by_one = reports_other started (act 0x4C 0 0) clear clear report.Nothing (no_refusal NoPlace)
 
 -- P doesn't use copies
-pub step_looks_at_unused_copies : Reports started (act 0x50 0 4) clear clear (report.Refused 10)
+pub step_looks_at_unused_copies : Reports started (act 0x50 0 4) clear clear (report.Refused TooManyCopies)
 unfolding computes
-step_looks_at_unused_copies = reports_other started (act 0x50 0 4) clear clear (report.Refused 10) (λ e. no_refusal 10 (sym e))
+step_looks_at_unused_copies = reports_other started (act 0x50 0 4) clear clear (report.Refused TooManyCopies) (λ e. no_refusal TooManyCopies (sym e))
 
 -- Q goes to the controller
-pub step_room_of_the_other_channel : Reports answered (act 0x51 0 1) clear answers (report.Refused 9)
+pub step_room_of_the_other_channel : Reports answered (act 0x51 0 1) clear answers (report.Refused NoRoom)
 unfolding computes
-step_room_of_the_other_channel = reports_other answered (act 0x51 0 1) clear answers (report.Refused 9) (λ e. no_refusal 9 (sym e))
+step_room_of_the_other_channel = reports_other answered (act 0x51 0 1) clear answers (report.Refused NoRoom) (λ e. no_refusal NoRoom (sym e))
 
 -- C on a bench that is not well formed
 pub step_looks_at_no_end : Reports contradicts (act 0x43 0 0) clear clear report.Nothing
 unfolding computes
-step_looks_at_no_end = reports_other contradicts (act 0x43 0 0) clear clear report.Nothing (no_refusal 2)
+step_looks_at_no_end = reports_other contradicts (act 0x43 0 0) clear clear report.Nothing (no_refusal IllFormed)
 
 pub step_takes_a_short_table : Reports started (act 0x43 0 0) (replicate 2047 0) clear report.Nothing
 unfolding computes
-step_takes_a_short_table = reports_other started (act 0x43 0 0) (replicate 2047 0) clear report.Nothing (no_refusal 2)
+step_takes_a_short_table = reports_other started (act 0x43 0 0) (replicate 2047 0) clear report.Nothing (no_refusal IllFormed)

@@ -4,7 +4,8 @@ use mathlib.Core.Path.{◌≡◌, sym, ap, ◌∙◌}
 use mathlib.Core.List.{List, [], ◌∷◌}
 use native.Mathlib.Omega.{arith}
 use lib.ListN.{get_or}
-use Rattle.ground.specs.Choice.{when◌then◌else◌}
+use Rattle.ground.specs.declared.refusals.Refusal.TheVariants.{NoAction, IllFormed}
+use Rattle.ground.specs.Choice.{chosen}
 use Rattle.ground.proofs.Promise.{RulesOut}
 use Rattle.ends.specs.declared.Report.TheVariants as report
 use Rattle.bench.specs.Reports.{letter_cell, report_cells}
@@ -14,12 +15,12 @@ use Rattle.bench.proofs.cells.report_cells.Kinds as cells-kinds
 use Rattle.bench.proofs.cells.report_cells.Reads as cells
 
 -- a refusal 1 whose letter is shown, and a refusal 2 whose letter is not
-pub shows_the_letter : RulesOut letter-kinds.ps letter-kinds.r letter.Post (λ κs a. (a.0 ≡ 0x50) × (a.1.0 ≡ report.Refused 1)) (λ κs a x s. x ≡ 0x50)
-unfolding when◌then◌else◌
+pub shows_the_letter : RulesOut letter-kinds.ps letter-kinds.r letter.Post (λ κs a. (a.0 ≡ 0x50) × (a.1.0 ≡ report.Refused NoAction)) (λ κs a x s. x ≡ 0x50)
+unfolding chosen
 shows_the_letter κs a x s e w p = let q : x ≡ 0x3F = p ∙ (λ i. letter_cell (e.0 i) (e.1 i)) in omega (arith, q, w)
 
-pub question_mark_for_2 : RulesOut letter-kinds.ps letter-kinds.r letter.Post (λ κs a. (a.0 ≡ 0x50) × (a.1.0 ≡ report.Refused 2)) (λ κs a x s. x ≡ 0x3F)
-unfolding when◌then◌else◌
+pub question_mark_for_2 : RulesOut letter-kinds.ps letter-kinds.r letter.Post (λ κs a. (a.0 ≡ 0x50) × (a.1.0 ≡ report.Refused IllFormed)) (λ κs a x s. x ≡ 0x3F)
+unfolding chosen
 question_mark_for_2 κs a x s e w p = let q : x ≡ 0x50 = p ∙ (λ i. letter_cell (e.0 i) (e.1 i)) in omega (arith, q, w)
 
 -- OK for a delivery, and LO for an answer that says OK

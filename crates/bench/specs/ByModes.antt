@@ -1,7 +1,7 @@
 -- What the step by modes promises: the rules' step with numbers on offer, of a bench that is known to be well formed. Nothing of it stands in the
 -- promise of an entry. Assumes nothing.
-use Rattle.std.specs.Prelude.{ℕ, ◌≤◌, ◌≡◌, Bool, true, false, not, ◌&&◌, List, eqb, leb, ltb, length}
-use Rattle.std.proofs.Math.Option.{none, some}
+use Rattle.std.specs.Prelude.{ℕ, ◌≤◌, ◌≡◌, Bool, true, false, not, ◌&&◌, List, eqb, leb, ltb, length, Option, None, Some}
+use Rattle.std.proofs.Math.Option as maybe
 use Rattle.ground.specs.Choice.{when◌then◌else◌}
 use Rattle.ground.specs.Cell.{is_message}
 use Rattle.ground.specs.First.{refusal}
@@ -17,18 +17,18 @@ use Rattle.letters.specs.Lines.{letter_of, Lined}
 use Rattle.letters.specs.declared.ConsoleAsk.{ConsoleAsk}
 use Rattle.letters.specs.declared.ConsoleAsk.TheVariants as asked
 use Rattle.letters.specs.declared.ControllerAsk.{ControllerAsk}
-use Rattle.letters.specs.declared.Takes.{Takes}
-use Rattle.letters.specs.declared.Takes.TheVariants as takes
+use Rattle.wire.specs.declared.Direction.{Direction}
+use Rattle.wire.specs.declared.Direction.TheVariants.{ToController, ToConsole}
 use Rattle.letters.specs.declared.Line.{Line}
-use Rattle.numbers.specs.Numbers.{given, move_means}
+use Rattle.numbers.specs.Numbers.{move_means}
 use Rattle.numbers.specs.declared.Move.{Move}
 use Rattle.numbers.specs.declared.Move.TheVariants.{Stay}
 use Rattle.ends.specs.AsRules.{tested, for_controller, report_back, delivered}
 use Rattle.ends.specs.declared.Report.{Report}
 use Rattle.ends_console.specs.AsRules as console
-use Rattle.ends_console.specs.declared.decides.Decided as console-decided
+use Rattle.ends_console.specs.Types as console-types
 use Rattle.ends_controller.specs.AsRules as controller
-use Rattle.ends_controller.specs.declared.decides.Decided as controller-decided
+use Rattle.ends_controller.specs.Types as controller-types
 use Rattle.channels.specs.Packets.{to_controller_bytes, to_controller_read, to_console_bytes, to_console_read}
 use Rattle.channels.specs.Table.{channel, packets}
 use Rattle.bench.specs.Arriving.{came_for}
@@ -46,13 +46,13 @@ modes_moved b o m n out back =
     record {
       console =
           record {
-            numbers = record { next = given o.j.0; known = true; move = move_means m };
+            numbers = record { next = console.given o.j; known = true; move = move_means m };
             mode = in_mode (λ _. b.console.held) (console.mode b.console.mode);
             up = b.console.up;
           };
       controller =
           record {
-            numbers = record { next = given o.i.0; known = not o.unknown; move = move_means n };
+            numbers = record { next = controller.given o.i; known = not o.unknown; move = move_means n };
             mode = controller.mode b.controller.mode;
             up = b.controller.up;
           };
@@ -75,15 +75,15 @@ pub record Known (b : Modes) (out back : List ℕ) : Type 0 where
   pub back_holds : back ≡ channel to_console_bytes (packets to_console_read b.returned back)
 
 -- a number on offer can stand in a packet
-abbrev pub Offers : ℕ → Type 0
-Offers next = (n : ℕ) → given next ≡ some n → Number numbering n
+abbrev pub Offers : maybe.Option ℕ → Type 0
+Offers next = (n : ℕ) → next ≡ maybe.some n → Number numbering n
 
 -- what came is the packet at the place, and `unknown` speaks of it
 pub record Arrived (b : Modes) (o : Offered) (out back : List ℕ) (line : Line) (a : Action) (came : Came) : Type 0 where
   pub came_is : came ≡ came_for line.asks out b.sent back b.returned a.place
   pub unknown_is : ends.unknown (λ n. not o.unknown) (for_controller came.controller) ≡ o.unknown
-  pub j_offered : Offers o.j.0
-  pub i_offered : Offers o.i.0
+  pub j_offered : Offers (console.given o.j)
+  pub i_offered : Offers (controller.given o.i)
 
 -- ## The step
 
@@ -127,15 +127,14 @@ puts asked.ComeBack = false
 puts asked.TellAck = false
 
 -- a packet lost on its way
-abbrev pub lost_from : Takes → rules.Taken
-lost_from takes.Nothing = rules.from_neither
-lost_from takes.ToController = rules.from_to_controller
-lost_from takes.ToConsole = rules.from_to_console
+abbrev pub lost_from : Option Direction → rules.Taken
+lost_from None = rules.from_neither
+lost_from (Some ToController) = rules.from_to_controller
+lost_from (Some ToConsole) = rules.from_to_console
 
-abbrev pub TakesOne : Takes → Type 0
-TakesOne takes.Nothing = ⊥
-TakesOne takes.ToController = Unit {0}
-TakesOne takes.ToConsole = Unit {0}
+abbrev pub TakesOne : Option Direction → Type 0
+TakesOne None = ⊥
+TakesOne (Some way) = Unit {0}
 
 -- a line of the table, and copies that are not too many
 pub record Few (line : Line) (a : Action) : Type 0 where
@@ -157,14 +156,14 @@ module _ (b : Modes) (o : Offered) (out back : List ℕ) (line : Line) (a : Acti
   -- the console; what it does without copies sends nothing
   pub record OnConsole (ask : ConsoleAsk) (came : Came) : Type 0 where
     pub begun : Few line a
-    pub offers : Offers o.j.0
+    pub offers : Offers (console.given o.j)
     pub asks : asks_of ≡ rules.Asked.console (in_console_act (λ _. a.message) (console.asked_to ask came.console))
     pub takes : rules.takes (letter_of line) ≡ (when line.place then rules.from_to_console else rules.from_neither)
     pub message : line.message ≡ puts ask
-    pub silent : line.copies ≡ false → (e : ends.Console Offer (List ℕ)) → (ends.console_acts offered e (in_console_act (λ _. a.message) (console.asked_to ask came.console))).sent ≡ none
+    pub silent : line.copies ≡ false → (e : ends.Console Offer (List ℕ)) → (ends.console_acts offered e (in_console_act (λ _. a.message) (console.asked_to ask came.console))).sent ≡ maybe.none
 
   -- and it does not refuse, and the packet is there
-  pub record ConsoleReady (ask : ConsoleAsk) (came : Came) (d : console-decided.Decided) : Type 0 where
+  pub record ConsoleReady (ask : ConsoleAsk) (came : Came) (d : console-types.Decided) : Type 0 where
     pub on : OnConsole ask came
     pub decided : d ≡ console.decided (ends.console_acts offered (console.on_offer b.console.mode b.console.up o.j) (console.asked_to ask came.console))
     pub accepts : refusal (ends.console_rules offered (tested (is_message a.message)) (console.on_offer b.console.mode b.console.up o.j) (console.asked_to ask came.console)) ≡ 0
@@ -173,15 +172,15 @@ module _ (b : Modes) (o : Offered) (out back : List ℕ) (line : Line) (a : Acti
   -- the controller, with data's message
   pub record OnController (ask : ControllerAsk) (came : Came) : Type 0 where
     pub begun : Few line a
-    pub offers : Offers o.i.0
+    pub offers : Offers (controller.given o.i)
     pub asks : asks_of ≡ rules.Asked.controller (in_controller_act (λ _. came.message) (controller.asked_to ask came.controller))
     pub takes : rules.takes (letter_of line) ≡ (when line.place then rules.from_to_controller else rules.from_neither)
-    pub silent : line.copies ≡ false → (e : ends.Controller Offer) → (ends.controller_acts offered e (in_controller_act (λ _. came.message) (controller.asked_to ask came.controller))).sent ≡ none
+    pub silent : line.copies ≡ false → (e : ends.Controller Offer) → (ends.controller_acts offered e (in_controller_act (λ _. came.message) (controller.asked_to ask came.controller))).sent ≡ maybe.none
     pub seven : (e : ends.Controller Offer) → e.numbers.known ≡ not o.unknown
         → refusal (ends.controller_rules offered e (controller.asked_to ask came.controller))
         ≡ staged_7 (refusal (ends.controller_rules offered (all_known e) (controller.asked_to ask came.controller))) o.unknown
 
-  pub record ControllerReady (ask : ControllerAsk) (came : Came) (d : controller-decided.Decided) : Type 0 where
+  pub record ControllerReady (ask : ControllerAsk) (came : Came) (d : controller-types.Decided) : Type 0 where
     pub on : OnController ask came
     pub decided : d ≡ controller.decided (ends.controller_acts offered (controller.on_offer b.controller.mode b.controller.up o.i) (controller.asked_to ask came.controller))
     pub accepts : refusal (ends.controller_rules offered (controller.on_offer b.controller.mode b.controller.up o.i) (controller.asked_to ask came.controller)) ≡ 0

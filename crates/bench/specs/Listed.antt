@@ -1,8 +1,7 @@
 -- Demand 3 of the list program: its lines are those of the step's outcomes at the actions that its records are, from a fresh bench with 0 and 0;
 -- and what a reader of records and lines sees is a right log without the puts' numbers. Assumes nothing.
-use Rattle.std.specs.Prelude.{ℕ, suc, ◌*◌, ◌≡◌, true, false, List, [], ◌∷◌, ◌++◌, map, length, get_or, take, drop, replicate}
-use Rattle.std.proofs.Math.Option
-use Rattle.std.proofs.Math.Option.{Option, none, some}
+use Rattle.std.specs.Prelude.{ℕ, suc, ◌*◌, ◌≡◌, true, false, List, [], ◌∷◌, ◌++◌, map, length, get_or, take, drop, replicate, Option, None, Some}
+use Rattle.std.proofs.Math.Option as maybe
 use Rattle.ground.specs.Cell.{spaces}
 use Rattle.ground.specs.Bytes.{field}
 use Rattle.wire.specs.declared.I.{I}
@@ -18,8 +17,8 @@ use Rattle.bench.specs.declared.Outcome.{Outcome}
 
 -- the action that a record is; of a record that is none one whose letter, ?, is no action's
 abbrev pub action_or : Option Action → Action
-action_or none = record { letter = 0x3F; place = 0; copies = 0; message = spaces }
-action_or (some a) = a
+action_or None = record { letter = 0x3F; place = 0; copies = 0; message = spaces }
+action_or (Some a) = a
 
 abbrev pub action_of : List ℕ → Action
 action_of s = action_or (list_action s)
@@ -40,7 +39,7 @@ lines_of k (s ∷ ss) (o ∷ os) = report_line k (get_or s 0 0) o.report o.messa
 -- ## What a reader sees
 
 -- the row that a line shows, by its letter, its two cells and its message; the cells of a put stand in the record
-unfoldable pub line_shows : List ℕ → List ℕ → Option (Event (List ℕ))
+unfoldable pub line_shows : List ℕ → List ℕ → maybe.Option (Event (List ℕ))
 line_shows s line =
     shown_by (record { letter = get_or line 5 0; place = 0; copies = 0; message = field s 4 16 })
     (cells_say (get_or line 7 0) (get_or line 8 0)) (field line 10 16)
@@ -67,6 +66,6 @@ pub record ListRight (input before after : List ℕ) (n : ℕ) : Type 0 where
   pub rest : drop n after ≡ drop n before
   pub orders : OrdersRight j₀ i₀ clear clear (actions_in input before)
   -- the log whose orders are right, without the puts' numbers, is what the lines show, the first answer after each put
-  pub shown : map (Option.map unnumbered) (rows_of j₀ i₀ (actions_in input before)) ≡ firsts false (lines_show (records_in input before) after)
+  pub shown : map (maybe.map unnumbered) (rows_of j₀ i₀ (actions_in input before)) ≡ firsts false (lines_show (records_in input before) after)
   -- and a line of an A that is no put's answer says lost
   pub spare : spares_lost false (lines_show (records_in input before) after) ≡ true

@@ -1,8 +1,7 @@
 -- What the step with its numbers promises, of a bench that is known to be well formed, and what the runner's parts promise. Nothing of it stands in the
 -- promise of an entry. Assumes nothing.
-use Rattle.std.specs.Prelude.{ℕ, ◌<◌, ◌^◌, ◌≡◌, Bool, true, false, List, length, get_or}
-use Rattle.std.proofs.Math.Option.{some}
-use Rattle.ground.specs.Choice.{when◌then◌else◌}
+use Rattle.std.specs.Prelude.{ℕ, ◌<◌, ◌^◌, ◌≡◌, Bool, true, false, List, length, get_or, Option, None, Some}
+use Rattle.std.proofs.Math.Option as maybe
 use Rattle.ground.specs.Cell.{is_message, spaces}
 use Rattle.rules.specs.Supply as supply
 use Rattle.rules.specs.Supply.{numbering}
@@ -12,21 +11,19 @@ use Rattle.rules.specs.Reading.{Reading, reading, Read, read_step}
 use Rattle.rules.specs.Letters.{letter}
 use Rattle.letters.specs.Lines.{letter_of, found_of, Lined}
 use Rattle.letters.specs.declared.Line.{Line}
-use Rattle.letters.specs.declared.Found.{Found}
-use Rattle.letters.specs.declared.Found.TheVariants as found
 use Rattle.listing.specs.Record.{list_record}
 use Rattle.listing.specs.declared.Fields.{Fields}
 use Rattle.numbers.specs.Numbers.{numbers_means, numbers_fresh, numbers_moved}
 use Rattle.numbers.specs.declared.Numbers.{Numbers}
-use Rattle.ends.specs.declared.ForController.{ForController}
+use Rattle.ends.specs.declared.ToController.{ToController}
 use Rattle.ends_console.specs.Fields.{console_with}
 use Rattle.ends_console.specs.declared.Mode.TheVariants as console-mode
-use Rattle.ends_console.specs.declared.End as console-end
+use Rattle.ends_console.specs.Types as console-types
 use Rattle.ends_console.specs.declared.ack.Shown.{Shown}
 use Rattle.ends_console.specs.declared.fields.Console.{Console}
 use Rattle.ends_controller.specs.Fields.{controller_with}
 use Rattle.ends_controller.specs.declared.Mode.TheVariants as controller-mode
-use Rattle.ends_controller.specs.declared.End as controller-end
+use Rattle.ends_controller.specs.Types as controller-types
 use Rattle.ends_controller.specs.declared.fields.Controller.{Controller}
 use Rattle.bench.specs.ByModes.{action_of}
 use Rattle.bench.specs.WithNumbers.{with_numbers, WellWith, offered_by, ReadOutcome, read_of, step_with}
@@ -56,7 +53,7 @@ Well b out back = WellWith numbering b.modes (numbers_means b.console) (numbers_
 
 -- ## The thin layer
 
-abbrev pub numbers_offered : Numbers → Numbers → ForController → Offered
+abbrev pub numbers_offered : Numbers → Numbers → Option ToController → Offered
 numbers_offered c d came = offered_by numbering (numbers_means c) (numbers_means d) came
 
 -- what is shown, and the ack then
@@ -85,7 +82,7 @@ pub record Typed (c : Console) (d : Controller) : Type 0 where
   pub controller_j : d.j.0 < 2 ^ 32
 
 -- the ends that the fields stand for, and the counts
-unfoldable pub loaded_of : console-end.End → Bool → List ℕ → controller-end.End → ℕ → ℕ → Loaded
+unfoldable pub loaded_of : console-types.End → Bool → List ℕ → controller-types.End → ℕ → ℕ → Loaded
 loaded_of e ack held f sent returned =
     record {
       modes = record { console = record { mode = e.mode; up = e.up; held = held }; controller = record { mode = f.mode; up = f.up }; sent = sent; returned = returned };
@@ -108,28 +105,27 @@ outcome_of t = record { report = t.report; message = t.message; bench = bench_of
 
 -- the step of a letter that is an action
 unfoldable pub lined_step : Bench → Line → Action → List ℕ → List ℕ → Result
-lined_step b line a out back = step_of (some (letter_of line)) b a out back
+lined_step b line a out back = step_of (maybe.some (letter_of line)) b a out back
 
 -- ## What the runner's parts promise
 
 -- a line that was found is one of the table
-abbrev pub FoundLined : Found → Type 0
-FoundLined found.Nothing = Unit {0}
-FoundLined (found.Line l) = Lined l
+abbrev pub FoundLined : Option Line → Type 0
+FoundLined None = Unit {0}
+FoundLined (Some l) = Lined l
 
 -- a record that is not well formed is 1
-abbrev pub fields_outcome : Line → Fields → Loaded → List ℕ → List ℕ → Read (rules.Bench supply.Numbers (List ℕ)) (List ℕ)
-fields_outcome l r b out back =
-    when r.fits then read_step numbering is_message (loaded_reads b out back) (action_of l (action_with l r))
-    else record { report = ends.refused 1; after = loaded_reads b out back }
+abbrev pub fields_outcome : Line → Option Fields → Loaded → List ℕ → List ℕ → Read (rules.Bench supply.Numbers (List ℕ)) (List ℕ)
+fields_outcome l None b out back = record { report = ends.refused 1; after = loaded_reads b out back }
+fields_outcome l (Some r) b out back = read_step numbering is_message (loaded_reads b out back) (action_of l (action_with l r))
 
 -- and so is one whose letter is no action's
-abbrev pub record_outcome : Found → List ℕ → Loaded → List ℕ → List ℕ → Read (rules.Bench supply.Numbers (List ℕ)) (List ℕ)
-record_outcome found.Nothing s b out back = record { report = ends.refused 1; after = loaded_reads b out back }
-record_outcome (found.Line l) s b out back = fields_outcome l (list_record (uses_of l) s) b out back
+abbrev pub record_outcome : Option Line → List ℕ → Loaded → List ℕ → List ℕ → Read (rules.Bench supply.Numbers (List ℕ)) (List ℕ)
+record_outcome None s b out back = record { report = ends.refused 1; after = loaded_reads b out back }
+record_outcome (Some l) s b out back = fields_outcome l (list_record (uses_of l) s) b out back
 
 unfoldable pub line_step : Loaded → List ℕ → List ℕ → Line → List ℕ → ReadOutcome supply.Numbers
-line_step b out back l s = read_of (record_outcome (found.Line l) s b out back)
+line_step b out back l s = read_of (record_outcome (Some l) s b out back)
 
 unfoldable pub record_step : Loaded → List ℕ → List ℕ → List ℕ → ReadOutcome supply.Numbers
 record_step b out back s = read_of (record_outcome (found_of (letter (get_or s 0 0))) s b out back)

@@ -1,6 +1,7 @@
 -- What the bench promises: the outcome and both tables afterwards, for every input. Assumes nothing.
 use Rattle.std.specs.Prelude.{ℕ, ◌&&◌, List, length, eqb}
 use Rattle.std.proofs.Math.Option.{Option, none, some}
+use Rattle.ground.specs.Refusals.{refusal_of}
 use Rattle.ground.specs.Choice.{when◌then◌else◌}
 use Rattle.ground.specs.Cell.{is_message, spaces}
 use Rattle.wire.specs.declared.I.{I}
@@ -27,7 +28,7 @@ pub record Result : Type 0 where
 
 -- a refusal leaves bench and tables byte for byte
 unfoldable pub bench_refused : ℕ → Bench → List ℕ → List ℕ → Result
-bench_refused n b out back = record { outcome = record { report = Refused n; message = spaces; bench = b }; out = out; back = back }
+bench_refused n b out back = record { outcome = record { report = Refused (refusal_of n); message = spaces; bench = b }; out = out; back = back }
 
 -- what the rules' bench comes to, as fields and tables
 unfoldable pub bench_told : Read (rules.Bench Numbers (List ℕ)) (List ℕ) → Result

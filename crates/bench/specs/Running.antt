@@ -1,11 +1,8 @@
 -- The list program: its records, the step at every record, and a line for each. Assumes nothing.
-use Rattle.std.specs.Prelude.{ℕ, zero, suc, ◌/◌, List, [], ◌∷◌, ◌++◌, ltb, length, get_or, take, drop, replicate}
-use Rattle.std.proofs.Math.Option.{Option, none, some}
+use Rattle.std.specs.Prelude.{ℕ, zero, suc, ◌/◌, List, [], ◌∷◌, ◌++◌, ltb, length, get_or, take, drop, replicate, Option, None, Some, option_map}
 use Rattle.ground.specs.Choice.{when◌then◌else◌}
 use Rattle.rules.specs.Letters.{letter}
 use Rattle.letters.specs.Lines.{found_of}
-use Rattle.letters.specs.declared.Found.{Found}
-use Rattle.letters.specs.declared.Found.TheVariants as found
 use Rattle.letters.specs.declared.Line.{Line}
 use Rattle.listing.specs.Record.{list_record}
 use Rattle.listing.specs.declared.Fields.{Fields}
@@ -30,17 +27,17 @@ abbrev pub action_with : Line → Fields → Action
 action_with l r = record { letter = l.byte; place = r.place; copies = r.copies; message = r.message }
 
 -- the action that a record is: none if no action has its letter, or if it is not well formed
-abbrev pub action_as : Found → List ℕ → Option Action
-action_as found.Nothing s = none
-action_as (found.Line l) s = let r = list_record (uses_of l) s in when r.fits then some (action_with l r) else none
+abbrev pub action_as : Option Line → List ℕ → Option Action
+action_as None s = None
+action_as (Some l) s = option_map (action_with l) (list_record (uses_of l) s)
 
 unfoldable pub list_action : List ℕ → Option Action
 list_action s = action_as (found_of (letter (get_or s 0 0))) s
 
 -- a record that is no action is 1; any other is a step
 abbrev pub played_as : Option Action → Bench → List ℕ → List ℕ → Result
-played_as none b out back = bench_refused 1 b out back
-played_as (some a) b out back = bench_step b a out back
+played_as None b out back = bench_refused 1 b out back
+played_as (Some a) b out back = bench_step b a out back
 
 unfoldable pub played : Bench → List ℕ → List ℕ → List ℕ → Result
 played b out back s = played_as (list_action s) b out back

@@ -1,7 +1,11 @@
 -- A bench by its modes with the numbers of both ends, of any supply: what a step of one that is known to be well formed comes to. Nothing of it stands in
 -- the promise of an entry. Assumes nothing.
-use Rattle.std.specs.Prelude.{ℕ, ◌≡◌, Bool, List}
+use Rattle.std.specs.Prelude.{ℕ, ◌≡◌, Bool, List, Option, option_map}
+use Rattle.std.proofs.Math.Option as maybe
 use Rattle.ground.specs.Cell.{is_message}
+use Rattle.ground.specs.Options.{option_back}
+use Rattle.wire.specs.declared.I.{I}
+use Rattle.wire.specs.declared.J.{J}
 use Rattle.rules.specs.Supply.{Supply}
 use Rattle.rules.specs.Offered.{moved}
 use Rattle.rules.specs.Ends as ends
@@ -10,9 +14,9 @@ use Rattle.rules.specs.Reading.{Reading, reading, Read, read_step}
 use Rattle.rules.specs.Relabel.{in_mode}
 use Rattle.rules.specs.WellFormed.{WellFormed}
 use Rattle.letters.specs.declared.Line.{Line}
-use Rattle.numbers.specs.Numbers.{number_or0, move_means}
+use Rattle.numbers.specs.Numbers.{move_means}
 use Rattle.ends.specs.AsRules.{for_controller, report_back, delivered}
-use Rattle.ends.specs.declared.ForController.{ForController}
+use Rattle.ends.specs.declared.ToController.{ToController}
 use Rattle.ends.specs.declared.Report.{Report}
 use Rattle.ends_console.specs.AsRules as console
 use Rattle.ends_console.specs.declared.ack.Shown.{Shown}
@@ -44,12 +48,18 @@ pub record WellWith {S : Type 0} (U : Supply S) (b : Modes) (s t : S) (out back 
 
 -- ## What is offered, and what is moved
 
--- the numbers on offer; 0 for none
-abbrev pub offered_by : {S : Type 0} → Supply S → S → S → ForController → Offered
+-- the numbers on offer, as the code has them
+abbrev pub next_j : maybe.Option ℕ → Option J
+next_j o = option_map (λ n. record { 0 = n }) (option_back o)
+
+abbrev pub next_i : maybe.Option ℕ → Option I
+next_i o = option_map (λ n. record { 0 = n }) (option_back o)
+
+abbrev pub offered_by : {S : Type 0} → Supply S → S → S → Option ToController → Offered
 offered_by U s t came =
     record {
-      j = record { 0 = number_or0 (U.next s) };
-      i = record { 0 = number_or0 (U.next t) };
+      j = next_j (U.next s);
+      i = next_i (U.next t);
       unknown = ends.unknown (U.used t) (for_controller came);
     }
 

@@ -3,16 +3,15 @@ ghost use Rattle.std.specs.Prelude.{◌≡◌};
 ghost use Rattle.bench.specs.Reports.{letter_cell, report_cells};
 
 use ends::Report;
+use ground::Refusal;
 
+#[tactic(auto, unfolding(ground::specs::Choice::chosen))]
 pub fn letter_cell(letter: u8, report: Report) -> u8
     ensures { result ≡ letter_cell letter report }
 {
     match report {
-        Report::Nothing => letter,
-        Report::Delivered => letter,
-        Report::Ok => letter,
-        Report::Lost => letter,
-        Report::Refused(n) => if n == 1 { b'?' } else { letter },
+        Report::Refused(Refusal::NoAction) => b'?',
+        _ => letter,
     }
 }
 
@@ -20,10 +19,10 @@ pub fn report_cells(report: Report) -> [u8; 2]
     ensures { result ≡ report_cells report }
 {
     match report {
-        Report::Nothing => [b'-', b'-'],
-        Report::Delivered => [b'D', b'L'],
-        Report::Ok => [b'O', b'K'],
-        Report::Lost => [b'L', b'O'],
-        Report::Refused(n) => listing::two_digits(n),
+        Report::Nothing => *b"--",
+        Report::Delivered => *b"DL",
+        Report::Ok => *b"OK",
+        Report::Lost => *b"LO",
+        Report::Refused(refusal) => listing::two_digits(u8::from(refusal)),
     }
 }

@@ -13,16 +13,15 @@ ghost use Rattle.std.specs.Prelude.{◌≡◌, ◌&&◌};
 ghost use Rattle.ground.specs.Cell.{spaces};
 ghost use Rattle.wire.specs.declared.Direction.TheVariants as way;
 ghost use Rattle.letters.specs.Lines.{Lined};
-ghost use Rattle.ends_console.specs.Fields.{console_read};
-ghost use Rattle.ends_controller.specs.Fields.{controller_read};
 ghost use Rattle.channels.specs.Table.{table_ok};
 ghost use Rattle.bench.specs.Promise.{bench_step, bench_fresh};
-ghost use Rattle.bench.specs.Loaded.{Typed, loaded_of, outcome_of, lined_step};
+ghost use Rattle.bench.specs.Loaded.{loaded_of, outcome_of, lined_step};
 
 use ends::Report;
-use ends_console::fields::{Console, ConsoleRead, fresh_console, read_console};
-use ends_controller::fields::{Controller, ControllerRead, fresh_controller, read_controller};
-use letters::{Found, Line};
+use ends_console::fields::{Console, console_of, fresh_console, read_console};
+use ends_controller::fields::{Controller, controller_of, fresh_controller, read_controller};
+use ground::Refusal;
+use letters::Line;
 use loaded::{Loaded, Stepped, step_known};
 use modes::{ConsoleSide, ControllerSide, Modes};
 pub use runner::run;
@@ -53,31 +52,26 @@ pub struct Outcome {
     pub bench: Bench,
 }
 
-fn refused(n: u8, b: Bench) -> Outcome
-    ensures { result ≡ record { report = Report.Refused n; message = spaces; bench = b } }
+fn refused(refusal: Refusal, b: Bench) -> Outcome
+    ensures { result ≡ record { report = Report.Refused refusal; message = spaces; bench = b } }
 {
     Outcome {
-        report: Report::Refused(n),
+        report: Report::Refused(refusal),
         message: [0x20; 16],
         bench: b,
     }
 }
 
-// What the types of a bench say; there is nothing to run.
-fn typed(console: Console, controller: Controller)
-    ensures { Typed console controller }
-{}
-
 // Each table is read once.
 fn tables_ok(out: &[u8], sent: usize, back: &[u8], returned: usize) -> bool
     ensures { result ≡ (table_ok way.ToController sent out.now && table_ok way.ToConsole returned back.now) }
 {
-    if !channels::table_ok(out, sent, Direction::ToController) {
-        return false;
-    }
-    channels::table_ok(back, returned, Direction::ToConsole)
+    channels::table_ok(out, sent, Direction::ToController)
+        && channels::table_ok(back, returned, Direction::ToConsole)
 }
 
+// The ends that a bench's fields stand for, with what stands beside them.
+#[tactic(auto, unfolding(crate::specs::Loaded::loaded_of))]
 fn load(
     e: ends_console::End,
     ack: bool,
@@ -88,113 +82,56 @@ fn load(
 ) -> Loaded
     ensures { result ≡ loaded_of e ack held f sent returned }
 {
-    let console = e.mode;
-    let controller = f.mode;
-    let first = e.numbers;
-    let second = f.numbers;
     Loaded {
         modes: Modes {
             sent,
             returned,
             console: ConsoleSide {
-                mode: console,
+                mode: e.mode,
                 up: e.up,
                 held,
             },
             controller: ControllerSide {
-                mode: controller,
+                mode: f.mode,
                 up: f.up,
             },
         },
-        console: first,
-        controller: second,
+        console: e.numbers,
+        controller: f.numbers,
         ack,
     }
 }
 
+#[tactic(auto, unfolding(crate::specs::Loaded::outcome_of))]
 fn outcome_of(t: Stepped) -> Outcome
     ensures { result ≡ outcome_of t }
 {
-    let report = t.report;
-    let message = t.message;
-    let after = t.after;
-    let modes = after.modes;
-    let console = modes.console;
-    let held = console.held;
-    let controller = modes.controller;
-    let mode = console.mode;
-    let numbers = after.console;
+    let Loaded {
+        modes,
+        console,
+        controller,
+        ack,
+    } = t.after;
     let first = ends_console::End {
-        numbers,
-        mode,
-        up: console.up,
+        numbers: console,
+        mode: modes.console.mode,
+        up: modes.console.up,
     };
-    let mode = controller.mode;
-    let numbers = after.controller;
     let second = ends_controller::End {
-        numbers,
-        mode,
-        up: controller.up,
+        numbers: controller,
+        mode: modes.controller.mode,
+        up: modes.controller.up,
     };
+    let message = t.message;
     Outcome {
-        report,
+        report: t.report,
         message,
         bench: Bench {
-            console: ends_console::fields::console_of(first, after.ack, held),
-            controller: ends_controller::fields::controller_of(second),
+            console: console_of(first, ack, modes.console.held),
+            controller: controller_of(second),
             sent: modes.sent,
             returned: modes.returned,
         },
-    }
-}
-
-// The step of a bench whose ends are well formed.
-fn ends_read(
-    b: Bench,
-    e: ends_console::End,
-    f: ends_controller::End,
-    line: Line,
-    a: Action,
-    out: &mut [u8],
-    back: &mut [u8],
-) -> Outcome
-    requires lined { Lined line }
-    requires console_value { console_read b.console ≡ ConsoleRead.Is e }
-    requires controller_value { controller_read b.controller ≡ ControllerRead.Is f }
-    ensures { record { outcome = result; out = out.new; back = back.new } ≡ lined_step b line a out.old back.old }
-{
-    if !tables_ok(out, b.sent, back, b.returned) {
-        return refused(2, b);
-    }
-    let console = b.console;
-    let controller = b.controller;
-    typed(console, controller);
-    channels::bytes_fit(out);
-    channels::bytes_fit(back);
-    let held = console.message;
-    let loaded = load(e, console.ack, held, f, b.sent, b.returned);
-    let stepped = step_known(loaded, line, a, out, back);
-    outcome_of(stepped)
-}
-
-// The step of a bench whose console is well formed.
-fn console_is_read(
-    b: Bench,
-    e: ends_console::End,
-    line: Line,
-    a: Action,
-    out: &mut [u8],
-    back: &mut [u8],
-) -> Outcome
-    requires lined { Lined line }
-    requires console_value { console_read b.console ≡ ConsoleRead.Is e }
-    ensures { record { outcome = result; out = out.new; back = back.new } ≡ lined_step b line a out.old back.old }
-{
-    let controller = b.controller;
-    let read = read_controller(controller);
-    match read {
-        ControllerRead::IllFormed => refused(2, b),
-        ControllerRead::Is(f) => ends_read(b, e, f, line, a, out, back),
     }
 }
 
@@ -203,22 +140,26 @@ fn lined_step(b: Bench, line: Line, a: Action, out: &mut [u8], back: &mut [u8]) 
     requires { Lined line }
     ensures { record { outcome = result; out = out.new; back = back.new } ≡ lined_step b line a out.old back.old }
 {
-    let console = b.console;
-    let read = read_console(console);
-    match read {
-        ConsoleRead::IllFormed => refused(2, b),
-        ConsoleRead::Is(e) => console_is_read(b, e, line, a, out, back),
+    let Some(e) = read_console(b.console) else {
+        return refused(Refusal::IllFormed, b);
+    };
+    let Some(f) = read_controller(b.controller) else {
+        return refused(Refusal::IllFormed, b);
+    };
+    if !tables_ok(out, b.sent, back, b.returned) {
+        return refused(Refusal::IllFormed, b);
     }
+    let loaded = load(e, b.console.ack, b.console.message, f, b.sent, b.returned);
+    outcome_of(step_known(loaded, line, a, out, back))
 }
 
 // One of the fourteen actions. `out` and `back` are the tables of the packets to the controller and to the console.
 pub fn step(b: Bench, a: Action, out: &mut [u8], back: &mut [u8]) -> Outcome
     ensures { record { outcome = result; out = out.new; back = back.new } ≡ bench_step b a out.old back.old }
 {
-    let found = letters::find(a.letter);
-    match found {
-        Found::Nothing => refused(1, b),
-        Found::Line(line) => lined_step(b, line, a, out, back),
+    match letters::find(a.letter) {
+        None => refused(Refusal::NoAction, b),
+        Some(line) => lined_step(b, line, a, out, back),
     }
 }
 
@@ -233,10 +174,10 @@ pub fn fresh(j: J, i: I, out: &mut [u8], back: &mut [u8]) -> Outcome
         returned: 0,
     };
     if out.len() != 2048 {
-        return refused(2, b);
+        return refused(Refusal::IllFormed, b);
     }
     if back.len() != 2048 {
-        return refused(2, b);
+        return refused(Refusal::IllFormed, b);
     }
     tables::clear(out);
     tables::clear(back);

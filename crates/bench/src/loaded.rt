@@ -1,17 +1,22 @@
 // A bench by its modes, with the numbers of both ends and the console's ack: the thin layer that offers and moves the numbers, and keeps the ack.
+// What is known (Well) is said of a value and the two lent tables, as in modes. Few and Lined speak of the whole line of a letter: as a ghost field of
+// `Line` each of the table's fourteen would carry a proof, for three functions. Line and action stay two: the line is the table's, the action C's.
 ghost use Rattle.std.specs.Prelude.{◌≡◌, ◌&&◌, ltb};
 ghost use Rattle.ground.specs.Cell.{spaces};
 ghost use Rattle.letters.specs.Lines.{Lined};
 ghost use Rattle.bench.specs.ByModes.{Few};
-ghost use Rattle.bench.specs.WithNumbers.{as_it_is};
+ghost use Rattle.rules.specs.Supply.{numbering};
+ghost use Rattle.numbers.specs.Numbers.{numbers_means};
+ghost use Rattle.bench.specs.WithNumbers.{as_it_is, next_j, next_i};
 ghost use Rattle.bench.specs.Loaded.{Well, numbers_offered, moved_by, stepped_as, loaded_step};
 
 use crate::Action;
 use crate::arriving::{for_the_console, for_the_controller};
 use crate::modes::{Modes, Offered, Told, console_asked, controller_asked, loses};
-use ends::{ForController, Report};
+use ends::{Report, ToController};
 use ends_console::ack::{Shown, ack_use, shows};
 use ends_controller::acts::is_unknown;
+use ground::Refusal;
 use letters::{Asks, ConsoleAsk, ControllerAsk, Line};
 use numbers::Numbers;
 use wire::{I, J};
@@ -24,6 +29,7 @@ pub struct Loaded {
     pub ack: bool,
 }
 
+// An `Outcome` of the bench by its modes; that one's field is the bench, by the name that callers know.
 #[derive(Clone, Copy)]
 pub struct Stepped {
     pub report: Report,
@@ -31,22 +37,22 @@ pub struct Stepped {
     pub after: Loaded,
 }
 
-pub(crate) fn refused(n: u8, b: Loaded) -> Stepped
-    ensures { result ≡ record { report = Report.Refused n; message = spaces; after = b } }
+pub(crate) fn refused(refusal: Refusal, b: Loaded) -> Stepped
+    ensures { result ≡ record { report = Report.Refused refusal; message = spaces; after = b } }
 {
     Stepped {
-        report: Report::Refused(n),
+        report: Report::Refused(refusal),
         message: [0x20; 16],
         after: b,
     }
 }
 
-fn offers(console: Numbers, controller: Numbers, came: ForController) -> Offered
+fn offers(console: Numbers, controller: Numbers, came: Option<ToController>) -> Offered
     ensures { result ≡ numbers_offered console controller came }
 {
     Offered {
-        j: J(numbers::next(console)),
-        i: I(numbers::next(controller)),
+        j: console.next().map(J),
+        i: controller.next().map(I),
         unknown: is_unknown(controller, came),
     }
 }
@@ -55,18 +61,14 @@ fn offers(console: Numbers, controller: Numbers, came: ForController) -> Offered
 fn moved(console: Numbers, controller: Numbers, shown: Shown, told: Told) -> Stepped
     ensures { result ≡ moved_by console controller shown told }
 {
-    let report = shown.report;
     let message = told.message;
-    let modes = told.after;
-    let first = told.console;
-    let second = told.controller;
     Stepped {
-        report,
+        report: shown.report,
         message,
         after: Loaded {
-            modes,
-            console: numbers::after(console, first),
-            controller: numbers::after(controller, second),
+            modes: told.after,
+            console: console.after(told.console),
+            controller: controller.after(told.controller),
             ack: shown.ack,
         },
     }
@@ -76,14 +78,16 @@ fn moved(console: Numbers, controller: Numbers, shown: Shown, told: Told) -> Ste
 fn as_it_is(ack: bool, told: Told) -> Shown
     ensures { result ≡ as_it_is ack told }
 {
-    let report = told.report;
-    Shown { report, ack }
+    Shown {
+        report: told.report,
+        ack,
+    }
 }
 
 fn too_many(uses: bool, copies: usize) -> bool
     ensures { result ≡ (uses && ltb 3 copies) }
 {
-    if uses { 3 < copies } else { false }
+    uses && 3 < copies
 }
 
 // What the console is asked.
@@ -100,22 +104,17 @@ fn console_step(
     requires asks_value { line.asks ≡ Asks.Console ask }
     ensures { stepped_as result out.new back.new ≡ loaded_step b out.old back.old line a }
 {
-    let modes = b.modes;
-    let came = for_the_console(ask, a.place, back, modes.returned);
-    let first = b.console;
-    let second = b.controller;
-    let ack = b.ack;
-    let packet = came.controller;
-    let next = offers(first, second, packet);
-    let told = console_asked(modes, next, came, ask, line, a, out, back);
-    let report = told.report;
-    // each report has its own way to the end: with one for all the compiler lays the report out in memory
-    match report {
-        Report::Refused(_) => moved(first, second, as_it_is(ack, told), told),
-        Report::Nothing => moved(first, second, shows(ack_use(ask), ack, report), told),
-        Report::Delivered => moved(first, second, shows(ack_use(ask), ack, report), told),
-        Report::Ok => moved(first, second, shows(ack_use(ask), ack, report), told),
-        Report::Lost => moved(first, second, shows(ack_use(ask), ack, report), told),
+    let came = for_the_console(ask, a.place, back, b.modes.returned);
+    let next = offers(b.console, b.controller, came.controller);
+    let told = console_asked(b.modes, next, came, ask, line, a, out, back);
+    match told.report {
+        Report::Refused(_) => moved(b.console, b.controller, as_it_is(b.ack, told), told),
+        report => moved(
+            b.console,
+            b.controller,
+            shows(ack_use(ask), b.ack, report),
+            told,
+        ),
     }
 }
 
@@ -133,15 +132,10 @@ fn controller_step(
     requires asks_value { line.asks ≡ Asks.Controller ask }
     ensures { stepped_as result out.new back.new ≡ loaded_step b out.old back.old line a }
 {
-    let modes = b.modes;
-    let came = for_the_controller(ask, a.place, out, modes.sent);
-    let console = b.console;
-    let controller = b.controller;
-    let packet = came.controller;
-    let next = offers(console, controller, packet);
-    let told = controller_asked(modes, next, came, ask, line, a, out, back);
-    let shown = as_it_is(b.ack, told);
-    moved(console, controller, shown, told)
+    let came = for_the_controller(ask, a.place, out, b.modes.sent);
+    let next = offers(b.console, b.controller, came.controller);
+    let told = controller_asked(b.modes, next, came, ask, line, a, out, back);
+    moved(b.console, b.controller, as_it_is(b.ack, told), told)
 }
 
 // A packet lost asks no end, and moves no numbers; they are offered and moved as in the other arms, so that one proof serves.
@@ -151,13 +145,9 @@ fn losing_step(b: Loaded, line: Line, a: Action, out: &mut [u8], back: &mut [u8]
     requires asks_value { line.asks ≡ Asks.NoEnd }
     ensures { stepped_as result out.new back.new ≡ loaded_step b out.old back.old line a }
 {
-    let modes = b.modes;
-    let console = b.console;
-    let controller = b.controller;
-    let next = offers(console, controller, ForController::Nothing);
-    let told = loses(modes, next, line, a, out, back);
-    let shown = as_it_is(b.ack, told);
-    moved(console, controller, shown, told)
+    let next = offers(b.console, b.controller, None);
+    let told = loses(b.modes, next, line, a, out, back);
+    moved(b.console, b.controller, as_it_is(b.ack, told), told)
 }
 
 // The step of a bench that is known to be well formed, of a letter's line of the table. Each arm has its own way to the end, so that what the others
@@ -174,10 +164,9 @@ pub(crate) fn step_known(
     ensures { stepped_as result out.new back.new ≡ loaded_step b out.old back.old line a }
 {
     if too_many(line.copies, a.copies) {
-        return refused(10, b);
+        return refused(Refusal::TooManyCopies, b);
     }
-    let asks = line.asks;
-    match asks {
+    match line.asks {
         Asks::Console(ask) => console_step(b, ask, line, a, out, back),
         Asks::Controller(ask) => controller_step(b, ask, line, a, out, back),
         Asks::NoEnd => losing_step(b, line, a, out, back),

@@ -8,8 +8,10 @@ use crate::Action;
 use crate::cells::{letter_cell, report_cells};
 use crate::loaded::{Loaded, Stepped, refused, step_known};
 use crate::modes::{ConsoleSide, ControllerSide, Modes};
-use letters::{Found, Line};
+use ground::Refusal;
+use letters::Line;
 use listing::Uses;
+use numbers::Numbers;
 
 // A record whose letter has this line; one that is not well formed is 1.
 fn play_line(b: Loaded, line: Line, part: &[u8], out: &mut [u8], back: &mut [u8]) -> Stepped
@@ -22,18 +24,18 @@ fn play_line(b: Loaded, line: Line, part: &[u8], out: &mut [u8], back: &mut [u8]
         copies: line.copies,
         message: line.message,
     };
-    let r = listing::read(part, uses);
-    if r.fits {
-        let message = r.message;
-        let a = Action {
-            letter: line.byte,
-            place: r.place,
-            copies: r.copies,
-            message,
-        };
-        step_known(b, line, a, out, back)
-    } else {
-        refused(1, b)
+    match listing::read(part, uses) {
+        None => refused(Refusal::NoAction, b),
+        Some(r) => {
+            let message = r.message;
+            let a = Action {
+                letter: line.byte,
+                place: r.place,
+                copies: r.copies,
+                message,
+            };
+            step_known(b, line, a, out, back)
+        }
     }
 }
 
@@ -43,10 +45,9 @@ fn play(b: Loaded, part: &[u8], out: &mut [u8], back: &mut [u8]) -> Stepped
     requires part_nonzero { 0 < length part.now }
     ensures { stepped_as result out.new back.new ≡ record_step b out.old back.old part.now }
 {
-    let found = letters::find(part[0]);
-    match found {
-        Found::Nothing => refused(1, b),
-        Found::Line(line) => play_line(b, line, part, out, back),
+    match letters::find(part[0]) {
+        None => refused(Refusal::NoAction, b),
+        Some(line) => play_line(b, line, part, out, back),
     }
 }
 
@@ -65,21 +66,22 @@ fn play_record(
     ensures { Played b out.old back.old part.now number result line.new out.new back.new }
 {
     let told = play(b, part, out, back);
-    let report = told.report;
-    let letter = letter_cell(part[0], report);
-    let cells = report_cells(report);
-    let message = told.message;
-    listing::write_line(line, number, letter, cells, message);
-    let after = told.after;
-    after
+    let letter = letter_cell(part[0], told.report);
+    listing::write_line(
+        line,
+        number,
+        letter,
+        report_cells(told.report),
+        told.message,
+    );
+    told.after
 }
 
 // At most 9,999 records, and no more than there is room for lines.
 fn limit_of(room: usize) -> usize
     ensures { result ≡ limit_of room }
 {
-    let whole = room / 27;
-    if 9999 < whole { 9999 } else { whole }
+    (room / 27).min(9999)
 }
 
 // Gives the bytes that were written. The tables are a fresh or a known bench's.
@@ -89,8 +91,7 @@ fn run_on(b: Loaded, input: &[u8], output: &mut [u8], out: &mut [u8], back: &mut
 {
     let limit = limit_of(output.len());
     let mut at = b;
-    let mut n = 0;
-    while n < limit {
+    for n in 0..limit {
         let start = n * 21;
         if input.len() <= start {
             return n * 27;
@@ -105,9 +106,8 @@ fn run_on(b: Loaded, input: &[u8], output: &mut [u8], out: &mut [u8], back: &mut
             out,
             back,
         );
-        n += 1;
     }
-    n * 27
+    limit * 27
 }
 
 // A fresh bench with 0 and 0.
@@ -128,8 +128,8 @@ fn starts() -> Loaded
                 up: true,
             },
         },
-        console: numbers::fresh(0),
-        controller: numbers::fresh(0),
+        console: Numbers::fresh(0),
+        controller: Numbers::fresh(0),
         ack: false,
     }
 }
@@ -141,6 +141,5 @@ pub fn run(input: &[u8], output: &mut [u8]) -> usize
 {
     let mut out = [0; 2048];
     let mut back = [0; 2048];
-    let b = starts();
-    run_on(b, input, output, &mut out, &mut back)
+    run_on(starts(), input, output, &mut out, &mut back)
 }

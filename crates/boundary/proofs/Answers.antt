@@ -3,7 +3,7 @@
 use Prim.Native.Nat.{ℕ}
 use mathlib.Core.Path.{◌≡◌, refl, sym, ap, subst, ◌∙◌}
 use mathlib.Core.Bool.{Bool, true, false, true≢false}
-use mathlib.Core.Option.{some}
+use mathlib.Core.Option as maybe
 use mathlib.Core.List.{List}
 use borrow.Author.Tests.{eq-eqb}
 use contract.Lifetimes.{Lfts}
@@ -11,15 +11,16 @@ use borrow.Fn.Kinds.{Dens, ended_of}
 use denote.Triple.Clauses.{AtExit}
 use lib.ListN.{length, get_or, set}
 use lib.Dec.{eqb}
+use Rattle.std.specs.Prelude.{None, Option, Some, Result, Ok, Err}
 use Rattle.ground.specs.Bytes.{Bytes}
 use Rattle.ground.specs.Cell.{is_message}
-use Rattle.ground.specs.Choice.{when◌then◌else◌}
+use Rattle.ground.specs.Choice.{chosen, when◌then◌else◌}
 use Rattle.ground.specs.First.{refusal}
+use Rattle.ground.specs.declared.refusals.Refusal as refusals
 use Rattle.ground.proofs.Tests.{by_test, and_both}
 use Rattle.wire.specs.Number.{bytes_of}
-use Rattle.wire.specs.Packet.{packet_read}
-use Rattle.wire.specs.declared.ReadHead.{ReadHead}
-use Rattle.wire.specs.declared.ReadHead.TheVariants as read_head
+use Rattle.wire.specs.Packet.{head_read}
+use Rattle.wire.specs.declared.Head.{Head}
 use Rattle.rules.specs.Supply.{numbering}
 use Rattle.rules.specs.Letters.{line, letters, among, letter}
 use Rattle.rules.specs.Ends as rules
@@ -27,8 +28,7 @@ use Rattle.rules.specs.Reading.{leaves, said, ack_after, ack_says, console_read_
 use Rattle.numbers.specs.declared.Numbers.{Numbers}
 use Rattle.ends.specs.AsRules.{report_back, to_console}
 use Rattle.ends.specs.Packets.{head_for_console}
-use Rattle.ends.specs.declared.ForConsole.{ForConsole}
-use Rattle.ends.specs.declared.ForConsole.TheVariants as for-console
+use Rattle.ends.specs.declared.ToConsole.{ToConsole}
 use Rattle.ends.specs.declared.Report.{Report}
 use Rattle.ends_console.specs.Fields.{console_ok}
 use Rattle.ends_console.specs.FieldsAsRules.{console_means}
@@ -40,7 +40,6 @@ use Rattle.boundary.specs.State.{flag, is_refusal, changed, marks, told}
 use Rattle.boundary.specs.Console.{console_bytes, console_at, ConsoleStep, stepped, console_state_step}
 use Rattle.boundary.proofs.BenchRefusals.{console_long}
 use Rattle.boundary.proofs.ConsoleTrips.{console_ok_lem, console_step_leaves, console_write_back}
-use Rattle.boundary.proofs.ConsoleWellFormed.{console_refusal_number}
 use Rattle.boundary.proofs.ToldByte.{Refusal, unrefused, answers, NoAnswer, no_answer_told}
 use Rattle.boundary.proofs.console.nooseless_console_step.Kinds as console-kinds
 use Rattle.boundary.proofs.console.nooseless_console_step.Reads as console-step
@@ -56,7 +55,7 @@ says ack = report_back {M = List ℕ} (ack_says ack)
 
 alone_reads : (c : Console) → length c.message ≡ 16 → console_ok c ≡ true → (m packet reply : List ℕ) → is_refusal (console_alone c 0x41 m packet reply).outcome.report ≡ false
     → console_alone c 0x41 m packet reply ≡ record { outcome = record { report = says c.ack; sent = false; console = read_of c }; reply = reply }
-unfolding console_alone console_alone_acts console_read_step said ack_after rules.console_step rules.console_acts rules.console_turn rules.end_after rules.numbers_after rules.up_after rules.absent line letters among letter when◌then◌else◌
+unfolding console_alone console_alone_acts console_read_step said ack_after rules.console_step rules.console_acts rules.console_turn rules.end_after rules.numbers_after rules.up_after rules.absent line letters among letter chosen
 alone_reads c long ok m packet reply e =
     by_test (eqb (refusal (rules.console_rules numbering is_message (console_means c) rules.tell_ack)) 0)
     (λ z. rw (ok, z) (λ i. record { outcome = record { report = says c.ack; sent = false; console = only_its_ack c false long ok i }; reply = reply }))
@@ -70,7 +69,7 @@ abbrev pub answer_in : List ℕ → ℕ
 answer_in s = when eqb (get_or s 20 0) 1 then 65 else 66
 
 told_so : (ack keep : Bool) → keep ≡ false → told (says ack) false keep ≡ (when eqb (flag ack) 1 then 65 else 66)
-unfolding marks when◌then◌else◌
+unfolding marks chosen
 told_so true keep e = rw e
 told_so false keep e = rw e
 
@@ -88,7 +87,7 @@ pub console_reads_the_answer : (s m packet reply : List ℕ) → Bytes s → (Re
 console_reads_the_answer s m packet reply b z =
     let c = console_at s in
     let a = console_alone c 0x41 m packet reply in
-    let f = unrefused a.outcome.report a.outcome.sent (changed c.numbers a.outcome.console.numbers) (console_refusal_number c m packet reply 0x41) z in
+    let f = unrefused a.outcome.report a.outcome.sent (changed c.numbers a.outcome.console.numbers) z in
     let ok = console_ok_lem s 0x41 m packet reply f in
     let same = console_write_back s b ok in
     let byte = sym (ack_byte c) ∙ ap (λ (l : List ℕ). get_or l 20 0) same in
@@ -121,24 +120,24 @@ module _ (c : Console) (m packet reply : List ℕ) where
   abbrev Quiet : ConsoleAlone → Type 0
   Quiet d = NoAnswer d.outcome.report
 
-  takes_quiet : (p : ForConsole) → Quiet (console_alone_takes c reply p)
+  takes_quiet : (p : Option ToConsole) → Quiet (console_alone_takes c reply p)
   unfolding console_alone_acts console_read_step
-  takes_quiet for-console.Nothing = tt
-  takes_quiet (for-console.Packet p) = stored c.ack (rules.console_step numbering is_message (console_means c) (rules.ConsoleAct.take (some (to_console p)))).report
+  takes_quiet None = tt
+  takes_quiet (Some p) = stored c.ack (rules.console_step numbering is_message (console_means c) (rules.ConsoleAct.take (maybe.some (to_console p)))).report
 
-  hears_quiet : (h : ReadHead) → Quiet (console_hears c reply h)
-  hears_quiet (read_head.Refused n) = tt
-  hears_quiet (read_head.Is h) = takes_quiet (head_for_console h)
+  hears_quiet : (h : Result Head refusals.Refusal) → Quiet (console_hears c reply h)
+  hears_quiet (Err r) = tt
+  hears_quiet (Ok h) = takes_quiet (head_for_console h)
 
   alone_quiet : Quiet (console_alone c 0x53 m packet reply)
-  unfolding console_alone lent line letters among letter when◌then◌else◌
+  unfolding console_alone lent line letters among letter chosen
   alone_quiet =
       by_test (console_ok c)
-      (λ t. rw t (by_test (eqb (length reply) 32) (λ l. rw l (hears_quiet (packet_read packet).head)) (λ l. rw l tt)))
+      (λ t. rw t (by_test (eqb (length reply) 32) (λ l. rw l (hears_quiet (head_read packet))) (λ l. rw l tt)))
       (λ f. rw f tt)
 
 pub console_take_tells_no_answer : (s m packet reply : List ℕ) → answers (console_state_step s 0x53 m packet reply).told ≡ false
 console_take_tells_no_answer s m packet reply =
     let c = console_at s in
     let a = console_alone c 0x53 m packet reply in
-    no_answer_told a.outcome.report a.outcome.sent (changed c.numbers a.outcome.console.numbers) (console_refusal_number c m packet reply 0x53) (alone_quiet c m packet reply)
+    no_answer_told a.outcome.report a.outcome.sent (changed c.numbers a.outcome.console.numbers) (alone_quiet c m packet reply)

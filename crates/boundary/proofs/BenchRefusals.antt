@@ -7,7 +7,10 @@ use borrow.Author.Tests.{eqb-true}
 use lib.ListN.{length, get_or, drop, length-drop}
 use lib.Dec.{eqb, leb}
 use Rattle.ground.specs.Bytes.{Bytes}
-use Rattle.ground.specs.Choice.{when◌then◌else◌}
+use Rattle.ground.specs.Choice.{chosen}
+use Rattle.ground.specs.Refusals.{number_of}
+use Rattle.ground.specs.declared.refusals.Refusal.{Refusal}
+use Rattle.ground.proofs.RefusalNumbers.{refusal_of-number_of}
 use Rattle.ground.proofs.Bytes.{bytes_take, bytes_drop}
 use Rattle.ground.proofs.Tests.{by_test, and_left}
 use Rattle.wire.specs.Frame.{field}
@@ -45,11 +48,11 @@ none_fit = sound_fits (fresh_numbers 0) refl
 
 -- whatever the bytes
 pub console_long : (s : List ℕ) → length (console.console_at s).message ≡ 16
-unfolding console.console_at console.fields_at when◌then◌else◌
+unfolding console.console_at console.fields_at chosen
 console_long s = by_test (console.is_state s) (λ t. rw t (length-drop 21 s ∙ rw (state_long s t))) (λ f. rw f)
 
 pub console_typed : (s : List ℕ) → Bytes s → ConsoleTyped (console.console_at s)
-unfolding console.console_at console.fields_at when◌then◌else◌
+unfolding console.console_at console.fields_at chosen
 console_typed s b =
     by_test (console.is_state s)
     (λ t.
@@ -58,7 +61,7 @@ console_typed s b =
     (λ f. rw f (record { message = refl; numbers = none_fit; last = omega arith }))
 
 pub controller_typed : (s : List ℕ) → Bytes s → ControllerTyped (controller.controller_at s)
-unfolding controller.controller_at controller.is_state controller.fields_at when◌then◌else◌
+unfolding controller.controller_at controller.is_state controller.fields_at chosen
 controller_typed s b =
     by_test (controller.is_state s)
     (λ t.
@@ -77,17 +80,17 @@ parts_typed s b =
     record { message = c.message; console_last = c.last; controller_j = d.j }
 
 bench_typed : (s : List ℕ) → Bytes s → TypedBench (bench_at s)
-unfolding bench_at when◌then◌else◌
+unfolding bench_at chosen
 bench_typed s b =
     by_test (eqb (length s) 62) (λ t. rw t (parts_typed s b))
     (λ f. rw f (record { message = refl; console_last = omega arith; controller_j = omega arith }))
 
 -- ## A refusal
 
-module _ (s out back : List ℕ) (bytes : Bytes s) (p : Bytes out) (q : Bytes back) (a : Action) (n : ℕ) (refused : (step_result s a out back).outcome.report ≡ Refused n) where
-  same : step_result s a out back ≡ bench_refused n (bench_at s) out back
-  same = refused_same (bench_at s) out back (bench_typed s bytes) p q a n refused
+module _ (s out back : List ℕ) (bytes : Bytes s) (p : Bytes out) (q : Bytes back) (a : Action) (r : Refusal) (refused : (step_result s a out back).outcome.report ≡ Refused r) where
+  same : step_result s a out back ≡ bench_refused (number_of r) (bench_at s) out back
+  same = refused_same (bench_at s) out back (bench_typed s bytes) p q a r refused
 
-  pub bench_refusal_leaves : (d : List ℕ) → step_put s a out back d ≡ record { told = n; state = s; out = out; back = back; delivered = d }
-  unfolding bench_refused when◌then◌else◌
-  bench_refusal_leaves d = ap (stepped s d) same
+  pub bench_refusal_leaves : (d : List ℕ) → step_put s a out back d ≡ record { told = number_of r; state = s; out = out; back = back; delivered = d }
+  unfolding bench_refused chosen
+  bench_refusal_leaves d = ap (stepped s d) same ∙ ap (λ (x : Refusal). record { told = number_of x; state = s; out = out; back = back; delivered = d }) (refusal_of-number_of r)

@@ -12,7 +12,7 @@ use lib.Seq.{drop-cons, take_at, drop_at, get_or_at, append_snoc}
 use lib.Dec.{eqb}
 use Rattle.ground.specs.Bytes.{Bytes}
 use Rattle.ground.specs.Cell.{is_message}
-use Rattle.ground.specs.Choice.{when◌then◌else◌}
+use Rattle.ground.specs.Choice.{chosen}
 use Rattle.ground.specs.Every.{filled}
 use Rattle.ground.proofs.Bytes.{bytes_take, bytes_drop}
 use Rattle.ground.proofs.Tests.{by_test, and_left, and_right}
@@ -88,7 +88,7 @@ module _ (b : Bench) (c : console.Typed b.console) (d : controller.Typed b.contr
   small n h = omega (arith, h)
 
   pub bench_read_back : bench_at (bench_bytes b) ≡ b
-  unfolding bench_at parts_at bench_bytes when◌then◌else◌
+  unfolding bench_at parts_at bench_bytes chosen
   bench_read_back =
       let p = b.sent % 256 in
       let q = b.returned % 256 in
@@ -98,11 +98,11 @@ module _ (b : Bench) (c : console.Typed b.console) (d : controller.Typed b.contr
 
 -- another length stands for a bench that is not well formed
 none_ill : (out back : List ℕ) → bench_ok no_bench out back ≡ false
-unfolding bench_ok console_ok filled when◌then◌else◌
+unfolding bench_ok console_ok filled chosen
 none_ill out back = refl
 
 well_formed_long : (s out back : List ℕ) → bench_ok (bench_at s) out back ≡ true → length s ≡ 62
-unfolding bench_at when◌then◌else◌
+unfolding bench_at chosen
 well_formed_long s out back e =
     by_test (eqb (length s) 62) (λ t. eqb-true (length s) 62 t) (λ f. absurd (false≢true (sym (none_ill out back) ∙ rw f at e)))
 
@@ -130,7 +130,7 @@ module _ (s out back : List ℕ) (bytes : Bytes s) (l : length s ≡ 62) where
       (sym cut)
 
 pub bench_write_back : (s out back : List ℕ) → Bytes s → bench_ok (bench_at s) out back ≡ true → bench_bytes (bench_at s) ≡ s
-unfolding bench_at when◌then◌else◌
+unfolding bench_at chosen
 bench_write_back s out back bytes e =
     let l = well_formed_long s out back e in
     rw (eq-eqb (length s) 62 l) (same_parts s out back bytes l (rw (eq-eqb (length s) 62 l) at e))
@@ -138,17 +138,17 @@ bench_write_back s out back bytes e =
 -- ## A step that is not refused met a state, and leaves the fields that the bench comes to
 
 none_refused : (o : Option Letter) (a : Action) (out back : List ℕ) → is_refusal (step_of o no_bench a out back).outcome.report ≡ true
-unfolding bench_refused when◌then◌else◌
+unfolding bench_refused chosen
 none_refused none a out back = refl
 none_refused (some l) a out back = rw (none_ill out back)
 
 step_long : (s : List ℕ) (a : Action) (out back : List ℕ) → is_refusal (step_result s a out back).outcome.report ≡ false → length s ≡ 62
-unfolding bench_at bench_step when◌then◌else◌
+unfolding bench_at bench_step chosen
 step_long s a out back e =
     by_test (eqb (length s) 62) (λ t. eqb-true (length s) 62 t) (λ f. absurd (true≢false (sym (none_refused (letter a.letter) a out back) ∙ rw f at e)))
 
 pub bench_step_leaves : (s : List ℕ) (a : Action) (out back d : List ℕ) → is_refusal (step_result s a out back).outcome.report ≡ false → (step_put s a out back d).state ≡ bench_bytes (step_result s a out back).outcome.bench
-unfolding written when◌then◌else◌
+unfolding written chosen
 bench_step_leaves s a out back d e = rw (e, step_long s a out back e)
 
 -- its counts have places, so that their bytes are whole
@@ -158,7 +158,7 @@ module _ (b : Bench) (out back : List ℕ) (typed : Typed b.console b.controller
   means_well t = (passes_well b out back t typed p q).well_formed
 
   counts_few : (o : Option Letter) (a : Action) → is_refusal (step_of o b a out back).outcome.report ≡ false → ((step_of o b a out back).outcome.bench.sent ≤ 64) × ((step_of o b a out back).outcome.bench.returned ≤ 64)
-  unfolding bench_refused bench_told bench_back read_step when◌then◌else◌
+  unfolding bench_refused bench_told bench_back read_step chosen
   counts_few none a e = absurd (true≢false e)
   counts_few (some l) a e =
       by_test (bench_ok b out back)

@@ -10,43 +10,45 @@ use borrow.Fn.Kinds.{Dens, ended_of}
 use denote.Triple.Clauses.{AtExit}
 use lib.ListN.{length}
 use lib.Dec.{eqb}
+use Rattle.std.specs.Prelude.{Result, Ok, Err}
 use Rattle.ground.specs.Bytes.{Bytes}
-use Rattle.ground.specs.Choice.{when◌then◌else◌}
+use Rattle.ground.specs.Choice.{chosen, when◌then◌else◌}
 use Rattle.ground.specs.First.{first}
+use Rattle.ground.specs.Refusals.{number_of}
+use Rattle.ground.specs.declared.refusals.Refusal.{Refusal}
 use Rattle.ground.proofs.Promise.{unequal}
 use Rattle.ground.proofs.Tests.{by_test}
 use Rattle.wire.specs.Record.{is_old, is_good, record_bytes, record_refusal, record_read, length_of, record_write_refusal, renewed, aged}
 use Rattle.wire.specs.declared.NumberRecord.{NumberRecord}
 use Rattle.wire.specs.declared.NumberRecord.TheVariants.{ConsoleOld, ControllerOld, Console, Controller}
-use Rattle.wire.specs.declared.ReadRecord.{ReadRecord}
-use Rattle.wire.specs.declared.ReadRecord.TheVariants.{Refused, Is}
 use Rattle.wire.proofs.Carrying as carrying
 use Rattle.wire.proofs.Carrying.{with_64, renewed_good, aged_good, renewed_new, aged_old}
-use Rattle.wire.proofs.RecordTrips.{record_refused, record_unrefused, read_good, loaded}
+use Rattle.wire.proofs.RecordTrips.{record_unrefused, read_good, loaded}
 use Rattle.wire.proofs.RecordWriting.{record_writable, record_put_lem}
 use Rattle.boundary.specs.Records.{record_out, in_version, carry_refusal, carried}
+use Rattle.boundary.proofs.RefusalNumbers.{not_0, read_known}
 use Rattle.boundary.proofs.records.nooseless_carry_record.Kinds as carry-kinds
 use Rattle.boundary.proofs.records.nooseless_carry_record.Reads as carries
 
 -- ## What is refused: of either length 12, then as what is carried is read
 
 writable_1 : (r : NumberRecord) → record_write_refusal 12 (aged r) ≡ 0
-unfolding when◌then◌else◌
+unfolding chosen
 writable_1 r = rw (aged_old r) at (record_writable (aged r) (aged_good r))
 
 writable_2 : (r : NumberRecord) → is_good r ≡ true → record_write_refusal 16 (renewed r) ≡ 0
-unfolding when◌then◌else◌
+unfolding chosen
 writable_2 r g = rw (renewed_new r) at (record_writable (renewed r) (renewed_good r g))
 
 unwritable_2 : (n : ℕ) (r : NumberRecord) → eqb n 16 ≡ false → record_write_refusal n (renewed r) ≡ 12
-unfolding record_write_refusal first when◌then◌else◌
+unfolding record_write_refusal first chosen
 unwritable_2 n r f = rw (renewed_new r, f)
 
 module _ (s : List ℕ) (n : ℕ) where
-  of_read : (x : ReadRecord) → record_read s ≡ x → carry_refusal n x ≡ (when eqb n 12 || eqb n 16 then record_refusal s else 12)
-  unfolding when◌then◌else◌
-  of_read (Refused r) e = rw (record_refused s e).0
-  of_read (Is r) e =
+  of_read : (x : Result NumberRecord Refusal) → record_read s ≡ x → carry_refusal n x ≡ (when eqb n 12 || eqb n 16 then record_refusal s else 12)
+  unfolding chosen
+  of_read (Err r) e = rw (read_known s e)
+  of_read (Ok r) e =
       by_test (eqb n 12) (λ t. rw ((record_unrefused s e).0, t) (ap (λ (k : ℕ). record_write_refusal k (aged r)) (eqb-true n 12 t) ∙ writable_1 r))
       (λ f.
       by_test (eqb n 16)
@@ -58,7 +60,7 @@ module _ (s : List ℕ) (n : ℕ) where
 
 -- ## To each version
 
-module _ (s to : List ℕ) {r : NumberRecord} (read : record_read s ≡ Is r) where
+module _ (s to : List ℕ) {r : NumberRecord} (read : record_read s ≡ Ok r) where
   abbrev Into : NumberRecord → Type 0
   Into v = (carry_refusal (length to) (record_read s) ≡ 0) × (carried to (record_read s) ≡ record_bytes v)
 
@@ -66,22 +68,22 @@ module _ (s to : List ℕ) {r : NumberRecord} (read : record_read s ≡ Is r) wh
   into {v} f z = (rw (read, f) z, rw (read, f) (record_put_lem to v z))
 
   to_version_1 : length to ≡ 12 → Into (aged r)
-  unfolding when◌then◌else◌
+  unfolding chosen
   to_version_1 l = into (rw l) (rw l (writable_1 r))
 
   to_version_2 : length to ≡ 16 → Into (renewed r)
-  unfolding when◌then◌else◌
+  unfolding chosen
   to_version_2 l = into (rw l) (rw l (writable_2 r (read_good s read)))
 
 own_version : (r : NumberRecord) → in_version (length_of r) r ≡ r
-unfolding when◌then◌else◌
+unfolding chosen
 own_version (ConsoleOld j) = refl
 own_version (ControllerOld i) = refl
 own_version (Console j b) = refl
 own_version (Controller i b) = refl
 
 -- to its own version a record is the same bytes
-pub carry_own : (s to : List ℕ) → Bytes s → {r : NumberRecord} → record_read s ≡ Is r → length to ≡ length s → (carry_refusal (length to) (record_read s) ≡ 0) × (carried to (record_read s) ≡ s)
+pub carry_own : (s to : List ℕ) → Bytes s → {r : NumberRecord} → record_read s ≡ Ok r → length to ≡ length s → (carry_refusal (length to) (record_read s) ≡ 0) × (carried to (record_read s) ≡ s)
 carry_own s to b {r} read l =
     let d = loaded s b read in
     let n = l ∙ d.long in
@@ -91,24 +93,24 @@ carry_own s to b {r} read l =
 -- ## There and back
 
 -- what is not refused was accepted
-not_0 : (b : Bool) (n : ℕ) → (n ≡ 0 → ⊥) → (when b then n else 12) ≡ 0 → ⊥
-unfolding when◌then◌else◌
-not_0 true n h e = h e
-not_0 false n h e = unequal e refl
+both_not_0 : (b : Bool) (n : ℕ) → (n ≡ 0 → ⊥) → (when b then n else 12) ≡ 0 → ⊥
+unfolding chosen
+both_not_0 true n h e = h e
+both_not_0 false n h e = unequal e refl
 
-accepted : (s : List ℕ) (n : ℕ) (x : ReadRecord) → record_read s ≡ x → carry_refusal n x ≡ 0 → (r : NumberRecord) × (record_read s ≡ Is r)
-accepted s n (Refused r) e z = absurd (not_0 (eqb n 12 || eqb n 16) r (record_refused s e).1 z)
-accepted s n (Is r) e z = (r, e)
+accepted : (s : List ℕ) (n : ℕ) (x : Result NumberRecord Refusal) → record_read s ≡ x → carry_refusal n x ≡ 0 → (r : NumberRecord) × (record_read s ≡ Ok r)
+accepted s n (Err r) e z = absurd (both_not_0 (eqb n 12 || eqb n 16) (number_of r) (not_0 r) z)
+accepted s n (Ok r) e z = (r, e)
 
 is_old_lem : (r : NumberRecord) → length_of r ≡ 12 → is_old r ≡ true
-unfolding when◌then◌else◌
+unfolding chosen
 is_old_lem (ConsoleOld j) e = refl
 is_old_lem (ControllerOld i) e = refl
 is_old_lem (Console j b) e = absurd (unequal e refl)
 is_old_lem (Controller i b) e = absurd (unequal e refl)
 
 is_new : (r : NumberRecord) → length_of r ≡ 16 → is_old r ≡ false
-unfolding when◌then◌else◌
+unfolding chosen
 is_new (ConsoleOld j) e = absurd (unequal e refl)
 is_new (ControllerOld i) e = absurd (unequal e refl)
 is_new (Console j b) e = refl

@@ -10,7 +10,7 @@ use lib.ListN.{length, get_or, drop}
 use lib.Seq.{drop-cons}
 use lib.Dec.{eqb, leb}
 use Rattle.ground.specs.Bytes.{Bytes}
-use Rattle.ground.specs.Choice.{when◌then◌else◌}
+use Rattle.ground.specs.Choice.{chosen}
 use Rattle.ground.specs.Every.{filled}
 use Rattle.ground.proofs.Tests.{by_test, and_left, and_right}
 use Rattle.wire.specs.Frame.{field}
@@ -45,7 +45,7 @@ module _ (c : Console) (t : Typed c) where
   same_fields = rw (value_bytes_of 4 c.numbers.used t.numbers.last, value_bytes_of 4 c.numbers.reserved t.numbers.reserved, value_bytes_of 2 c.numbers.block t.numbers.block, value_bytes_of 4 c.j.0 t.j, value_bytes_of 4 c.last.0 t.last, flag_back c.held, flag_back c.up, flag_back c.ack)
 
   pub console_read_back : console_at (console_bytes c) ≡ c
-  unfolding console_at when◌then◌else◌
+  unfolding console_at chosen
   console_read_back = rw is_state_lem same_fields
 
 -- what 37 bytes with three flags are
@@ -89,11 +89,11 @@ same_bytes s b e =
 
 -- bytes that are no state stand for a console that is not well formed
 well_formed_state : (s : List ℕ) → console_ok (console_at s) ≡ true → is_state s ≡ true
-unfolding console_at console_ok filled when◌then◌else◌
+unfolding console_at console_ok filled chosen
 well_formed_state s e = by_test (is_state s) (λ t. t) (λ f. absurd (false≢true (rw f at e)))
 
 pub console_write_back : (s : List ℕ) → Bytes s → console_ok (console_at s) ≡ true → console_bytes (console_at s) ≡ s
-unfolding console_at when◌then◌else◌
+unfolding console_at chosen
 console_write_back s b e = rw (well_formed_state s e) (same_bytes s b (well_formed_state s e))
 
 -- ## A step that is not refused met a state, and leaves the fields that the console run alone comes to
@@ -101,9 +101,9 @@ console_write_back s b e = rw (well_formed_state s e) (same_bytes s b (well_form
 pub console_ok_lem : (s : List ℕ) (l : ℕ) (m packet reply : List ℕ) → is_refusal (console_alone (console_at s) l m packet reply).outcome.report ≡ false → console_ok (console_at s) ≡ true
 console_ok_lem s l m packet reply e =
     by_test (console_ok (console_at s)) (λ t. t)
-    (λ f. absurd (true≢false (sym (ill_refused (λ r. is_refusal r ≡ true) (λ n. refl) (console_at s) f l m packet reply) ∙ e)))
+    (λ f. absurd (true≢false (sym (ill_refused (λ r. is_refusal r ≡ true) (λ q. refl) (console_at s) f l m packet reply) ∙ e)))
 
 pub console_step_leaves : (s : List ℕ) (l : ℕ) (m packet reply : List ℕ) → is_refusal (console_alone (console_at s) l m packet reply).outcome.report ≡ false → (console_state_step s l m packet reply).state ≡ console_bytes (console_alone (console_at s) l m packet reply).outcome.console
-unfolding written when◌then◌else◌
+unfolding written chosen
 console_step_leaves s l m packet reply e =
     rw (e, state_long s (well_formed_state s (console_ok_lem s l m packet reply e)))

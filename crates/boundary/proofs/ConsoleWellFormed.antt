@@ -1,22 +1,24 @@
--- What a console run alone comes to: a refusal's number is from 1 to 31; without one it leaves a well-formed console, its fields of their types.
+-- What a console run alone leaves without a refusal: a well-formed console, its fields of their types.
 use Prim.Native.Nat.{ℕ}
-use mathlib.Core.Path.{◌≡◌, refl, sym, ap, subst}
+use mathlib.Core.Path.{◌≡◌, refl, sym, subst}
 use mathlib.Core.Bool.{Bool, true, false, true≢false}
 use mathlib.Core.List.{List}
 use native.Mathlib.Omega.{arith}
 use borrow.Author.Tests.{eqb-true}
 use lib.ListN.{length}
 use lib.Dec.{eqb}
+use Rattle.std.specs.Prelude.{Result}
+use Rattle.std.specs.Prelude as result
 use Rattle.ground.specs.Bytes.{Bytes}
 use Rattle.ground.specs.Cell.{cells, is_message}
-use Rattle.ground.specs.Choice.{when◌then◌else◌}
+use Rattle.ground.specs.Choice.{chosen}
 use Rattle.ground.specs.First.{refusal}
+use Rattle.ground.specs.declared.refusals.Refusal.{Refusal}
 use Rattle.ground.proofs.Tests.{by_test, and_left}
-use Rattle.wire.specs.Packet.{packet_read}
+use Rattle.wire.specs.Packet.{head_read}
 use Rattle.wire.specs.declared.Direction.TheVariants.{ToConsole}
+use Rattle.wire.specs.declared.Head.{Head}
 use Rattle.wire.specs.declared.Head.TheVariants as head
-use Rattle.wire.specs.declared.ReadHead.{ReadHead}
-use Rattle.wire.specs.declared.ReadHead.TheVariants as read_head
 use Rattle.rules.specs.Supply.{numbering, Numbers}
 use Rattle.rules.specs.Letters.{ConsoleAsk, to_put, to_send_need_i, to_send_data, to_tell_ack}
 use Rattle.rules.specs.Ends as rules
@@ -24,17 +26,13 @@ use Rattle.rules.specs.Bears.{ConsoleBears}
 use Rattle.rules.specs.Lists.{Opt}
 use Rattle.rules.specs.Reading.{use_of, said, ack_after, reading, console_read_step}
 use Rattle.rules.specs.WellFormed.{Number, Given, Good, ConsoleHandedOk, ConsoleOk}
-use Rattle.rules.proofs.Ends.{console_refused_lem}
-use Rattle.rules.proofs.Said.{refusal_through}
 use Rattle.rules.proofs.Supply.{numbering_lawful}
 use Rattle.rules.proofs.WellFormed.{console_acts_ok}
 use Rattle.ends_console.specs.Fields.{console_ok}
 use Rattle.ends_console.specs.FieldsAsRules.{console_means, console_back}
 use Rattle.numbers.proofs.Range.{number_below, Fit, sound_fits}
-use Rattle.ends.specs.AsRules.{for_console, number_in}
+use Rattle.ends.specs.AsRules.{for_console}
 use Rattle.ends.specs.Packets.{read_for_console}
-use Rattle.ends.proofs.Reports.{refused_in_rules}
-use Rattle.ends.specs.declared.Report.TheVariants as report
 use Rattle.ends_console.specs.declared.fields.Console.{Console}
 use Rattle.ends_console.proofs.WellFormed.{console_good, console_stands}
 use Rattle.channels.specs.Packets.{as_to_console, to_console_read}
@@ -45,41 +43,20 @@ use Rattle.alone.proofs.Calls.{console_heard, ConsoleActOf, console_by_act}
 use Rattle.boundary.specs.State.{is_refusal}
 use Rattle.boundary.proofs.BenchRefusals.{ConsoleTyped}
 use Rattle.boundary.proofs.ConsoleTrips.{Typed}
-use Rattle.boundary.proofs.RefusalNumbers.{one, two, twelve, fifteen, rules_number, head_number}
-use Rattle.boundary.proofs.ToldByte.{Refusal}
-
--- ## The number of a refusal
-
-module _ (c : Console) (m packet reply : List ℕ) where
-  abbrev Numbered : ConsoleAlone → Type 0
-  Numbered r = (n : ℕ) → r.outcome.report ≡ report.Refused n → Refusal n
-
-  acts_number : (a : rules.ConsoleAct (List ℕ)) → Numbered (console_alone_acts c reply a)
-  unfolding console_alone_acts console_read_step
-  acts_number a n e =
-      let d = (rules.console_step numbering is_message (console_means c) a).report in
-      let r = refusal_through (use_of a) c.ack d n (refused_in_rules (said (use_of a) c.ack d) n e) in
-      rules_number (rules.console_rules numbering is_message (console_means c) a) n ((console_refused_lem numbering is_message (console_means c) a n).0 r)
-
-  pub console_refusal_number : (l : ℕ) → Numbered (console_alone c l m packet reply)
-  console_refusal_number l =
-      console_by_act Refusal one two twelve fifteen c m packet reply Numbered (λ k h n e. subst Refusal (ap number_in e) h) (head_number packet) l (λ x k e f a g ok. acts_number a)
-
--- ## What is left without one
 
 -- what was read and goes to the console bears numbers
-packet_good : (packet : List ℕ) → Bytes packet → goes ToConsole (packet_read packet).head ≡ true → ToConsoleReadOk (as_to_console (packet_read packet).head)
+packet_good : (packet : List ℕ) → Bytes packet → goes ToConsole (head_read packet) ≡ true → ToConsoleReadOk (as_to_console (head_read packet))
 unfolding to_console_read
 packet_good packet b g = (to_console_coded.back packet b g).1
 
-head_good : (p : ReadHead) → (goes ToConsole p ≡ true → ToConsoleReadOk (as_to_console p)) → Opt ToConsoleReadOk (for_console (read_for_console p))
-head_good (read_head.Refused n) g = tt
-head_good (read_head.Is (head.NeedI j)) g = tt
-head_good (read_head.Is (head.Offer j i)) g = g refl
-head_good (read_head.Is (head.Data i)) g = tt
-head_good (read_head.Is (head.Ok i)) g = g refl
-head_good (read_head.Is (head.Lost i)) g = g refl
-head_good (read_head.Is (head.Done i)) g = tt
+head_good : (p : Result Head Refusal) → (goes ToConsole p ≡ true → ToConsoleReadOk (as_to_console p)) → Opt ToConsoleReadOk (for_console (read_for_console p))
+head_good (result.Err r) g = tt
+head_good (result.Ok (head.NeedI j)) g = tt
+head_good (result.Ok (head.Offer j i)) g = g refl
+head_good (result.Ok (head.Data i)) g = tt
+head_good (result.Ok (head.Ok i)) g = g refl
+head_good (result.Ok (head.Lost i)) g = g refl
+head_good (result.Ok (head.Done i)) g = tt
 
 handed_good : (m packet : List ℕ) → Opt ToConsoleReadOk (console_heard packet) → (k : ConsoleAsk) (a : rules.ConsoleAct (List ℕ)) → ConsoleActOf m packet k a → ConsoleHandedOk numbering a
 handed_good m packet g to_put a e = subst (ConsoleHandedOk numbering) (sym e) tt
@@ -113,10 +90,10 @@ module _ (c : Console) (typed : ConsoleTyped c) (m packet reply : List ℕ) (byt
   Leaves r = is_refusal r.outcome.report ≡ false → ConsoleLeft r.outcome.console
 
   acts_leave : (k : ConsoleAsk) (a : rules.ConsoleAct (List ℕ)) → ConsoleActOf m packet k a → console_ok c ≡ true → Leaves (console_alone_acts c reply a)
-  unfolding console_alone_acts console_read_step said rules.console_step when◌then◌else◌
+  unfolding console_alone_acts console_read_step said rules.console_step chosen
   acts_leave x a came y e =
       let k = refusal (rules.console_rules numbering is_message (console_means c) a) in
-      let given = handed_good m packet (head_good (packet_read packet).head (packet_good packet bytes)) x a came in
+      let given = handed_good m packet (head_good (head_read packet) (packet_good packet bytes)) x a came in
       by_test (eqb k 0)
       (λ z.
       let after = ack_after (use_of a) c.ack (rules.console_acts numbering (console_means c) a).report in
@@ -125,4 +102,4 @@ module _ (c : Console) (typed : ConsoleTyped c) (m packet reply : List ℕ) (byt
 
   pub console_left : (l : ℕ) → Leaves (console_alone c l m packet reply)
   console_left l =
-      console_by_act Refusal one two twelve fifteen c m packet reply Leaves (λ k h e. absurd (true≢false e)) (head_number packet) l (λ x k e f. acts_leave k)
+      console_by_act c m packet reply Leaves (λ k e. absurd (true≢false e)) l (λ x k e f. acts_leave k)

@@ -10,7 +10,7 @@ use lib.ListN.{length, get_or, drop, drop_of_length-le}
 use lib.Seq.{drop-cons}
 use lib.Dec.{eqb, leb}
 use Rattle.ground.specs.Bytes.{Bytes}
-use Rattle.ground.specs.Choice.{when◌then◌else◌}
+use Rattle.ground.specs.Choice.{chosen}
 use Rattle.ground.proofs.Tests.{by_test, and_left, and_right}
 use Rattle.wire.specs.Frame.{field}
 use Rattle.wire.specs.Number.{bytes_of}
@@ -44,7 +44,7 @@ module _ (c : Controller) (t : Typed c) where
   same_fields = rw (value_bytes_of 4 c.numbers.used t.numbers.last, value_bytes_of 4 c.numbers.reserved t.numbers.reserved, value_bytes_of 2 c.numbers.block t.numbers.block, value_bytes_of 4 c.j.0 t.j, value_bytes_of 4 c.i.0 t.i, value_bytes_of 4 c.last.0 t.last, flag_back c.up)
 
   pub controller_read_back : controller_at (controller_bytes c) ≡ c
-  unfolding controller_at when◌then◌else◌
+  unfolding controller_at chosen
   controller_read_back = rw is_state_lem same_fields
 
 -- what 23 bytes with a flag are
@@ -75,11 +75,11 @@ same_bytes s b e =
 
 -- bytes that are no state stand for a controller that is not well formed
 well_formed_state : (s : List ℕ) → controller_ok (controller_at s) ≡ true → is_state s ≡ true
-unfolding controller_at controller_ok when◌then◌else◌
+unfolding controller_at controller_ok chosen
 well_formed_state s e = by_test (is_state s) (λ t. t) (λ f. absurd (false≢true (rw f at e)))
 
 pub controller_write_back : (s : List ℕ) → Bytes s → controller_ok (controller_at s) ≡ true → controller_bytes (controller_at s) ≡ s
-unfolding controller_at when◌then◌else◌
+unfolding controller_at chosen
 controller_write_back s b e = rw (well_formed_state s e) (same_bytes s b (well_formed_state s e))
 
 -- ## A step that is not refused met a state, and leaves the fields that the controller run alone comes to
@@ -87,9 +87,9 @@ controller_write_back s b e = rw (well_formed_state s e) (same_bytes s b (well_f
 pub controller_ok_lem : (s : List ℕ) (l : ℕ) (packet reply : List ℕ) → is_refusal (controller_alone (controller_at s) l packet reply).outcome.report ≡ false → controller_ok (controller_at s) ≡ true
 controller_ok_lem s l packet reply e =
     by_test (controller_ok (controller_at s)) (λ t. t)
-    (λ f. absurd (true≢false (sym (ill_refused (λ r. is_refusal r ≡ true) (λ n. refl) (controller_at s) f l packet reply) ∙ e)))
+    (λ f. absurd (true≢false (sym (ill_refused (λ r. is_refusal r ≡ true) (λ q. refl) (controller_at s) f l packet reply) ∙ e)))
 
 pub controller_step_leaves : (s : List ℕ) (l : ℕ) (packet reply out : List ℕ) → is_refusal (controller_alone (controller_at s) l packet reply).outcome.report ≡ false → (controller_state_step s l packet reply out).state ≡ controller_bytes (controller_alone (controller_at s) l packet reply).outcome.controller
-unfolding written when◌then◌else◌
+unfolding written chosen
 controller_step_leaves s l packet reply out e =
     rw (e, (state s (well_formed_state s (controller_ok_lem s l packet reply e))).long)

@@ -1,5 +1,5 @@
 -- Flags: a bool as a byte and back; the marks beside a report.
-use Prim.Native.Nat.{ℕ, zero, suc, ◌+◌, ◌*◌, ◌≤◌}
+use Prim.Native.Nat.{ℕ, zero, suc, ◌≤◌}
 use mathlib.Core.Path.{◌≡◌, refl}
 use mathlib.Core.Bool.{Bool, true, false}
 use native.Mathlib.Omega.{arith}
@@ -11,7 +11,7 @@ pub flag_small : (b : Bool) → leb (flag b) 1 ≡ true
 flag_small true = refl
 flag_small false = refl
 
-pub flag_most : (b : Bool) → flag b ≤ 1
+flag_most : (b : Bool) → flag b ≤ 1
 flag_most true = omega arith
 flag_most false = omega arith
 
@@ -24,11 +24,7 @@ flag_same zero e = refl
 flag_same (suc zero) e = refl
 flag_same (suc (suc n)) e = let h = leb-true (suc (suc n)) 1 e in absurd (omega (arith, h))
 
-pub marks_are : {a b : ℕ} (sent keep : Bool) → a ≡ flag sent → b ≡ flag keep → 128 * a + 32 * b ≡ marks sent keep
+-- a report fits beside the marks
+pub marks_most : (sent keep : Bool) → marks sent keep ≤ 160
 unfolding marks
-marks_are sent keep e f = rw (e, f)
-
--- a report fits beside them
-pub marks_most : {r : ℕ} (sent keep : Bool) → r ≡ marks sent keep → r ≤ 160
-unfolding marks
-marks_most sent keep e = let p = flag_most sent in let q = flag_most keep in omega (arith, e, p, q)
+marks_most sent keep = let p = flag_most sent in let q = flag_most keep in omega (arith, p, q)

@@ -11,7 +11,7 @@ use denote.Triple.Clauses.{AtExit}
 use lib.ListN.{length}
 use lib.Dec.{eqb}
 use Rattle.ground.specs.Bytes.{Bytes}
-use Rattle.ground.specs.Choice.{when◌then◌else◌}
+use Rattle.ground.specs.Choice.{chosen}
 use Rattle.ground.specs.First.{first}
 use Rattle.ground.proofs.Tests.{and_left, and_right, and_both}
 use Rattle.wire.specs.Record.{is_old, number_of, block_of, is_block, is_good, record_bytes, record_write_refusal, record_written}
@@ -34,9 +34,9 @@ use Rattle.boundary.specs.State.{changed, state_record_put}
 use Rattle.boundary.specs.Console as console
 use Rattle.boundary.specs.Controller as controller
 use Rattle.boundary.proofs.BenchRefusals.{console_typed, controller_typed}
-use Rattle.boundary.proofs.ConsoleWellFormed.{console_refusal_number, console_left}
+use Rattle.boundary.proofs.ConsoleWellFormed.{console_left}
 use Rattle.boundary.proofs.ConsoleTrips as console-trips
-use Rattle.boundary.proofs.ControllerWellFormed.{controller_refusal_number, controller_left}
+use Rattle.boundary.proofs.ControllerWellFormed.{controller_left}
 use Rattle.boundary.proofs.ControllerTrips as controller-trips
 use Rattle.boundary.proofs.ToldByte.{Refusal, keeps, keeps_told, unrefused}
 use Rattle.boundary.proofs.console.nooseless_console_record.Kinds as console-record-kinds
@@ -68,7 +68,7 @@ module _ (end : ℕ → ℕ → NumberRecord) (numbered : (r b : ℕ) → number
   good r b h = rw (new r b, blocked r b) h
 
   written : (n : Numbers) → Block n.block → record_of n ≡ record_bytes (end n.reserved n.block)
-  unfolding state_record_put record_written record_write_refusal first when◌then◌else◌
+  unfolding state_record_put record_written record_write_refusal first chosen
   written n h = rw (long, good n.reserved n.block h, new n.reserved n.block)
 
   -- other numbers have another record
@@ -111,7 +111,7 @@ console_keeps_exactly s l m packet reply out b p long z =
     let a = console_alone c l m packet reply in
     let after = a.outcome.console in
     let marked = changed c.numbers after.numbers in
-    let f = unrefused a.outcome.report a.outcome.sent marked (console_refusal_number c m packet reply l) z in
+    let f = unrefused a.outcome.report a.outcome.sent marked z in
     let ok = console-trips.console_ok_lem s l m packet reply f in
     let w = console_left c (console_typed s b) m packet reply p l f in
     let read = ap console.console_at (console-trips.console_step_leaves s l m packet reply f) ∙ console-trips.console_read_back after w.1 in
@@ -146,7 +146,7 @@ controller_keeps_exactly s l packet reply delivered out b p long z =
     let a = controller_alone c l packet reply in
     let after = a.outcome.controller in
     let marked = changed c.numbers after.numbers in
-    let f = unrefused a.outcome.report a.outcome.sent marked (controller_refusal_number c packet reply l) z in
+    let f = unrefused a.outcome.report a.outcome.sent marked z in
     let ok = controller-trips.controller_ok_lem s l packet reply f in
     let w = controller_left c (controller_typed s b) packet reply p l f in
     let read = ap controller.controller_at (controller-trips.controller_step_leaves s l packet reply delivered f) ∙ controller-trips.controller_read_back after w.1 in

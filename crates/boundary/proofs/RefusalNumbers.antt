@@ -1,115 +1,76 @@
--- The number of every refusal is from 1 to 31: of the rules, of a packet in, of an end run alone and of a bench's step.
-use Prim.Native.Nat.{ℕ, zero, suc, ◌<◌}
-use mathlib.Core.Path.{◌≡◌, refl, ap, subst}
-use mathlib.Core.Bool.{Bool, true, ◌&&◌}
-use mathlib.Core.Option.{Option, none, some}
-use mathlib.Core.List.{List, [], ◌∷◌, map}
+-- The number of every refusal is from 1 to 31, and it is the number by which the rules, a read, a write or showing refuses.
+use Prim.Native.Nat.{ℕ, ◌<◌}
+use mathlib.Core.Path.{◌≡◌, refl, sym, ap, ◌∙◌}
+use mathlib.Core.List.{List}
 use native.Mathlib.Omega.{arith}
-use borrow.Author.Tests.{eqb-false, ltb-true}
-use lib.Dec.{eqb, ltb}
-use lib.ListN.{get_or, drop}
-use Rattle.ground.specs.Cell.{is_message}
-use Rattle.ground.specs.Choice.{when◌then◌else◌}
-use Rattle.ground.specs.Every.{every}
-use Rattle.ground.specs.First.{Rule, first, applies, refusal_order, refusal}
-use Rattle.ground.proofs.Tests.{by_test, and_left, and_right}
-use Rattle.wire.specs.Frame.{field, found, read_refusals}
-use Rattle.wire.specs.Number.{value}
-use Rattle.wire.specs.Packet.{kind_of, second_of, numbered, heads, head_of, head_at, carries, read_refusal, packet_read}
-use Rattle.wire.specs.declared.ReadHead.{ReadHead}
-use Rattle.wire.specs.declared.ReadHead.TheVariants.{Refused, Is}
-use Rattle.rules.specs.Supply.{numbering}
-use Rattle.rules.specs.Letters.{Letter, letter}
-use Rattle.rules.specs.Bench as rules
-use Rattle.rules.specs.Reading.{use_by, said, read_step}
-use Rattle.rules.proofs.Bench.{step_refused}
-use Rattle.rules.proofs.Said.{refusal_through}
-use Rattle.ends.specs.AsRules.{number_in}
-use Rattle.ends.proofs.Reports.{refused_in_rules}
-use Rattle.ends.specs.declared.Report.TheVariants as report
-use Rattle.alone.proofs.Calls.{HeadIs}
-use Rattle.bench.specs.AsRules.{bench_ok, bench_means}
-use Rattle.bench.specs.Promise.{bench_refused, bench_told, step_of, bench_step}
-use Rattle.bench.specs.declared.Action.{Action}
-use Rattle.bench.specs.declared.Bench.{Bench}
-use Rattle.boundary.proofs.ToldByte.{Refusal}
+use lib.ListN.{length}
+use lib.Dec.{eqb}
+use Rattle.std.specs.Prelude.{Err}
+use Rattle.ground.specs.Choice.{chosen}
+use Rattle.ground.specs.First.{Rule, refusal}
+use Rattle.ground.specs.Refusals.{number_of, refusal_of, refused_by, refusal_in}
+use Rattle.ground.specs.declared.refusals.Refusal as refusals
+use Rattle.ground.proofs.RefusalNumbers.{first_comes_back, refused_so, number_in_table}
+use Rattle.ground.proofs.Tests.{by_test}
+use Rattle.tables.specs.Shown.{show_refusal}
+use Rattle.tables.specs.declared.shown.Way.{Way}
+use Rattle.wire.specs.Packet.{read_refusal, head_read, write_refusal}
+use Rattle.wire.specs.Record.{record_refusal, record_read, record_write_refusal}
+use Rattle.wire.specs.declared.NumberRecord.{NumberRecord}
+use Rattle.wire.specs.declared.Packet.{Packet}
+use Rattle.wire.proofs.Outcomes.{head_refused}
+use Rattle.wire.proofs.RecordTrips.{record_refused}
 
-above : (n : ℕ) → (n ≡ 0 → ⊥) → 0 < n
-above zero z = absurd (z refl)
-above (suc n) z = omega arith
+-- what is told as a refusal
+abbrev pub Refusal : ℕ → Type 0
+Refusal n = (0 < n) × (n < 32)
 
--- those that come before the rules
-pub one : Refusal 1
-one = (omega arith, omega arith)
+pub refusal_number : (r : refusals.Refusal) → Refusal (number_of r)
+refusal_number r = let h = number_in_table r in (h.0, omega (arith, h.1))
 
-pub two : Refusal 2
-two = (omega arith, omega arith)
+pub not_0 : (r : refusals.Refusal) → number_of r ≡ 0 → ⊥
+not_0 r z = let h = (refusal_number r).0 in omega (arith, h, z)
 
-pub twelve : Refusal 12
-twelve = (omega arith, omega arith)
-
-pub fifteen : Refusal 15
-fifteen = (omega arith, omega arith)
-
-abbrev small : Rule → Bool
-small r = ltb r.0 32
-
-first_small : (rs : List Rule) → every small rs ≡ true → first rs < 32
-unfolding first when◌then◌else◌
-first_small [] h = omega arith
-first_small (r ∷ rs) h =
-    by_test r.1
-    (λ t. rw t (ltb-true r.0 32 (and_left (small r) (every small rs) h)))
-    (λ f. rw f (first_small rs (and_right (small r) (every small rs) h)))
-
--- ## The rules' own
-
-pub rules_number : (rs : List Rule) (n : ℕ) → (refusal rs ≡ n) × (n ≡ 0 → ⊥) → Refusal n
+-- what C is told of a refusal by the rules is the rules' own number
+rules_known : (rs : List Rule) → refusal_in (refused_by (refusal rs)) ≡ refusal rs
 unfolding refusal
-rules_number rs n h =
-    (above n h.1, subst (λ (k : ℕ). k < 32) h.0 (first_small (map (λ (k : ℕ). (k, applies rs k)) refusal_order) refl))
+rules_known rs = first_comes_back _ refl
 
--- ## Of a packet in that is not read
+pub rules_number : (rs : List Rule) → (refusal rs ≡ 0 → ⊥) → number_of (refusal_of (refusal rs)) ≡ refusal rs
+rules_number rs h = sym (ap refusal_in (refused_so (refusal rs) h)) ∙ rules_known rs
 
-abbrev pub Numbered : ReadHead → Type 0
-Numbered h = HeadIs Refusal one two twelve fifteen h
+-- likewise of a packet or number record that is written, and of showing
+pub packet_known : (n : ℕ) (p : Packet) → refusal_in (refused_by (write_refusal n p)) ≡ write_refusal n p
+unfolding write_refusal
+packet_known n p = first_comes_back _ refl
 
-found_holds : {A B : Type 0} (P : B → Type 0) (test : A → Bool) (is : A → B) (other : B) → P other → ((a : A) → P (is a)) → (l : List A) → P (found test is other l)
-unfolding when◌then◌else◌
-found_holds P test is other h k [] = h
-found_holds P test is other h k (a ∷ l) = by_test (test a) (λ t. rw t (k a)) (λ f. rw f (found_holds P test is other h k l))
+pub record_known : (n : ℕ) (r : NumberRecord) → refusal_in (refused_by (record_write_refusal n r)) ≡ record_write_refusal n r
+unfolding record_write_refusal
+record_known n r = first_comes_back _ refl
 
-head_of_lem : (k a b : ℕ) → Numbered (head_of k a b)
-unfolding head_of
-head_of_lem k a b =
-    found_holds Numbered (λ h. numbered h && eqb k (kind_of h) && eqb b (second_of h)) Is (Refused 15) fifteen (λ h. tt) (heads a b)
+pub show_known : (way : Way) (place : ℕ) (out : List ℕ) (sent : ℕ) (back : List ℕ) (returned : ℕ) → refusal_in (refused_by (show_refusal way place out sent back returned)) ≡ show_refusal way place out sent back returned
+unfolding show_refusal
+show_known way place out sent back returned = first_comes_back _ refl
 
-head_at_lem : (s : List ℕ) → Numbered (head_at s)
-unfolding head_at
-head_at_lem s = head_of_lem (get_or s 5 0) (value (field s 8 4)) (value (field s 12 4))
+-- and of a number record that is read
+module _ (s : List ℕ) where
+  record_refusal_known : refusal_in (refused_by (record_refusal s)) ≡ record_refusal s
+  unfolding record_refusal chosen
+  record_refusal_known = by_test (eqb (length s) 16) (λ t. rw t (first_comes_back _ refl)) (λ f. rw f (first_comes_back _ refl))
 
-pub head_number : (s : List ℕ) → Numbered (packet_read s).head
-unfolding packet_read read_refusal when◌then◌else◌
-head_number s =
-    let small_read = first_small (read_refusals 32 0x4C 1 s (carries (head_at s) (drop 16 s))) refl in
-    by_test (eqb (read_refusal s) 0) (λ t. rw t (head_at_lem s)) (λ f. rw f (above (read_refusal s) (eqb-false (read_refusal s) 0 f), small_read))
+  pub read_known : {r : refusals.Refusal} → record_read s ≡ Err r → number_of r ≡ record_refusal s
+  read_known {r} e =
+      let n = record_refusal s in
+      let q = record_refused s e in
+      ap number_of (sym q.0) ∙ sym (ap refusal_in (refused_so n q.1)) ∙ record_refusal_known
 
--- ## A bench's step
+-- and of a packet that is read
+packet_refusal_known : (s : List ℕ) → refusal_in (refused_by (read_refusal s)) ≡ read_refusal s
+unfolding read_refusal
+packet_refusal_known s = first_comes_back _ refl
 
-module _ (b : Bench) (a : Action) (out back : List ℕ) where
-  letter_number : (l : Option Letter) (n : ℕ) → (step_of l b a out back).outcome.report ≡ report.Refused n → Refusal n
-  unfolding bench_refused bench_told read_step when◌then◌else◌
-  letter_number none n e = subst Refusal (ap number_in e) one
-  letter_number (some l) n e =
-      by_test (bench_ok b out back)
-      (λ y.
-      let act = rules.action l a.place a.copies a.message in
-      let u = use_by (rules.asks (bench_means b out back) l a.place a.message) in
-      let d = (rules.step numbering is_message (bench_means b out back) act).report in
-      let r = refusal_through u b.console.ack d n (refused_in_rules (said u b.console.ack d) n (rw y at e)) in
-      rules_number (rules.rules_of numbering is_message (bench_means b out back) act) n ((step_refused numbering is_message (bench_means b out back) act n).0 r))
-      (λ z. subst Refusal (ap number_in (rw z at e)) two)
-
-  pub bench_refusal_number : (n : ℕ) → (bench_step b a out back).outcome.report ≡ report.Refused n → Refusal n
-  unfolding bench_step
-  bench_refusal_number n e = letter_number (letter a.letter) n e
+pub head_known : (s : List ℕ) {r : refusals.Refusal} → head_read s ≡ Err r → number_of r ≡ read_refusal s
+head_known s e =
+    let n = read_refusal s in
+    let q = head_refused s e in
+    ap number_of (sym q.0) ∙ sym (ap refusal_in (refused_so n q.1)) ∙ packet_refusal_known s

@@ -6,7 +6,9 @@ use mathlib.Core.List.{List}
 use borrow.Author.Tests.{ne_eqb}
 use lib.ListN.{length}
 use lib.Dec.{eqb}
-use Rattle.ground.specs.Choice.{when◌then◌else◌}
+use Rattle.std.specs.Prelude.{Result, Ok, Err}
+use Rattle.ground.specs.Choice.{chosen, when◌then◌else◌}
+use Rattle.ground.specs.declared.refusals.Refusal.{Refusal}
 use Rattle.ground.proofs.Promise.{RefusalLeaves}
 use Rattle.ground.proofs.Tests.{by_test}
 use Rattle.wire.specs.Packet.{head_of, packet_read, write_refusal, packet_written}
@@ -14,15 +16,13 @@ use Rattle.wire.specs.Record.{record_of, record_read, record_write_refusal, reco
 use Rattle.wire.specs.declared.I.{I}
 use Rattle.wire.specs.declared.J.{J}
 use Rattle.wire.specs.declared.NumberRecord.{NumberRecord}
-use Rattle.wire.specs.declared.ReadHead.{ReadHead}
-use Rattle.wire.specs.declared.ReadHead.TheVariants.{Refused, Is}
-use Rattle.wire.specs.declared.ReadRecord.{ReadRecord}
-use Rattle.wire.specs.declared.ReadRecord.TheVariants as read-record
+use Rattle.wire.specs.declared.Head.{Head}
+use Rattle.wire.specs.declared.Packet.{Packet}
+use Rattle.numbers.specs.declared.Numbers.{Numbers}
 use Rattle.ends_console.specs.Fields.{console_ok}
 use Rattle.ends_controller.specs.Fields.{controller_ok}
 use Rattle.bench.specs.Promise.{bench_refused, bench_told, bench_fresh}
-use Rattle.boundary.specs.declared.state.Start.{Start}
-use Rattle.boundary.specs.Packets.{PacketOut, head_out, head_refusal, head_put}
+use Rattle.boundary.specs.Packets.{PacketOut, read_out, head_refusal, head_put}
 use Rattle.boundary.specs.Records.{RecordOut, record_out, record_put_refusal, record_put, in_version, carry_refusal, carried}
 use Rattle.boundary.specs.State.{marks, length_refusal, written, start_refusal, started, state_record_refusal, state_record_put}
 use Rattle.boundary.specs.Console as console
@@ -62,7 +62,7 @@ Refusing n = n ≡ 0 → ⊥
 
 -- what is written only without a refusal
 left : {A : Type 0} (n : ℕ) (w s : A) → Refusing n → (when eqb n 0 then w else s) ≡ s
-unfolding when◌then◌else◌
+unfolding chosen
 left n w s z = rw (ne_eqb n 0 z)
 
 -- ## Packets
@@ -70,18 +70,18 @@ left n w s z = rw (ne_eqb n 0 z)
 abbrev places : PacketOut → ℕ × ℕ × ℕ × List ℕ
 places r = (r.kind, r.first, r.second, r.message)
 
-packet_left : (h : ReadHead) (m : List ℕ) (k a b : ℕ) (o : List ℕ) → Refusing (head_out h m k a b o).refusal → places (head_out h m k a b o) ≡ (k, a, b, o)
-packet_left (Refused n) m k a b o z = refl
-packet_left (Is h) m k a b o z = absurd (z refl)
+packet_left : (x : Result Packet Refusal) (k a b : ℕ) (o : List ℕ) → Refusing (read_out x k a b o).refusal → places (read_out x k a b o) ≡ (k, a, b, o)
+packet_left (Err r) k a b o z = refl
+packet_left (Ok p) k a b o z = absurd (z refl)
 
-packet_kept : (h : ReadHead) (m out : List ℕ) → Refusing (head_refusal (length out) h m) → head_put out h m ≡ out
+packet_kept : (x : Result Head Refusal) (m out : List ℕ) → Refusing (head_refusal (length out) x m) → head_put out x m ≡ out
 unfolding packet_written
-packet_kept (Refused n) m out z = refl
-packet_kept (Is h) m out z = left (write_refusal (length out) (record { head = h; message = m })) _ out z
+packet_kept (Err r) m out z = refl
+packet_kept (Ok h) m out z = left (write_refusal (length out) (record { head = h; message = m })) _ out z
 
 pub read_packet_refusal_leaves : RefusalLeaves read-packet-kinds.ps read-packet-kinds.r read-packet.Post (λ κs a. Unit {0}) (λ κs x. Refusing x) {B = ℕ × ℕ × ℕ × List ℕ} (λ κs a. (a.1.0.now, a.1.1.0.now, a.1.1.1.0.now, a.1.1.1.1.0.now)) (λ κs x s. (s.1.0.now, s.1.1.0.now, s.1.1.1.0.now, s.1.1.1.1.0.now))
 read_packet_refusal_leaves κs a x s t z p =
-    ap places p ∙ packet_left (packet_read a.0.now).head (packet_read a.0.now).message _ _ _ _ (λ e. z (ap (λ (r : PacketOut). r.refusal) p ∙ e))
+    ap places p ∙ packet_left (packet_read a.0.now) _ _ _ _ (λ e. z (ap (λ (r : PacketOut). r.refusal) p ∙ e))
 
 pub write_packet_refusal_leaves : RefusalLeaves write-packet-kinds.ps write-packet-kinds.r write-packet.Post (λ κs a. Unit {0}) (λ κs x. Refusing x) (λ κs a. a.0.now) (λ κs x s. s.0.now)
 write_packet_refusal_leaves κs a x s t z p =
@@ -92,21 +92,21 @@ write_packet_refusal_leaves κs a x s t z p =
 abbrev fields : RecordOut → ℕ × ℕ × ℕ
 fields r = (r.end, r.number, r.block)
 
-record_left : (r : ReadRecord) (e n b : ℕ) → Refusing (record_out r e n b).refusal → fields (record_out r e n b) ≡ (e, n, b)
-record_left (read-record.Refused r) e n b z = refl
-record_left (read-record.Is u) e n b z = absurd (z refl)
+record_left : (x : Result NumberRecord Refusal) (e n b : ℕ) → Refusing (record_out x e n b).refusal → fields (record_out x e n b) ≡ (e, n, b)
+record_left (Err r) e n b z = refl
+record_left (Ok u) e n b z = absurd (z refl)
 
 written_kept : (u : NumberRecord) (out : List ℕ) → Refusing (record_write_refusal (length out) u) → record_written out u ≡ out
 unfolding record_written
 written_kept u out z = left (record_write_refusal (length out) u) _ out z
 
-record_kept_lem : (r : ReadRecord) (b : ℕ) (out : List ℕ) → Refusing (record_put_refusal (length out) b r) → record_put out r ≡ out
-record_kept_lem (read-record.Refused r) b out z = refl
-record_kept_lem (read-record.Is u) b out z = written_kept u out z
+record_kept_lem : (x : Result NumberRecord Refusal) (b : ℕ) (out : List ℕ) → Refusing (record_put_refusal (length out) b x) → record_put out x ≡ out
+record_kept_lem (Err r) b out z = refl
+record_kept_lem (Ok u) b out z = written_kept u out z
 
-carry_kept : (r : ReadRecord) (to : List ℕ) → Refusing (carry_refusal (length to) r) → carried to r ≡ to
-carry_kept (read-record.Refused r) to z = refl
-carry_kept (read-record.Is u) to z = written_kept (in_version (length to) u) to z
+carry_kept : (x : Result NumberRecord Refusal) (to : List ℕ) → Refusing (carry_refusal (length to) x) → carried to x ≡ to
+carry_kept (Err r) to z = refl
+carry_kept (Ok u) to z = written_kept (in_version (length to) u) to z
 
 pub read_record_refusal_leaves : RefusalLeaves read-record-kinds.ps read-record-kinds.r reads-record.Post (λ κs a. Unit {0}) (λ κs x. Refusing x) {B = ℕ × ℕ × ℕ} (λ κs a. (a.1.0.now, a.1.1.0.now, a.1.1.1.0.now)) (λ κs x s. (s.1.0.now, s.1.1.0.now, s.1.1.1.0.now))
 read_record_refusal_leaves κs a x s t z p =
@@ -121,15 +121,15 @@ carry_record_refusal_leaves κs a x s t z p = p.1 ∙ carry_kept (record_read a.
 -- ## An end's state: fresh, started after power loss, and its number record. One law for both ends, over the length of a state
 
 fresh_left : (n : ℕ) (s b : List ℕ) → Refusing (length_refusal n s) → written n s b ≡ s
-unfolding length_refusal written when◌then◌else◌
+unfolding length_refusal written chosen
 fresh_left n s b z = by_test (eqb (length s) n) (λ t. absurd (z (rw t))) (λ f. rw f)
 
-start_left : (n : ℕ) (s : List ℕ) (l : Start) (b : List ℕ) → Refusing (start_refusal n s l) → started n s l b ≡ s
+start_left : (n : ℕ) (s : List ℕ) (l : Result Numbers Refusal) (b : List ℕ) → Refusing (start_refusal n s l) → started n s l b ≡ s
 unfolding started
 start_left n s l b z = left (start_refusal n s l) b s z
 
 state_record_left : (ok : Bool) (u : NumberRecord) (out : List ℕ) → Refusing (state_record_refusal ok u out) → state_record_put ok u out ≡ out
-unfolding state_record_refusal state_record_put when◌then◌else◌
+unfolding state_record_refusal state_record_put chosen
 state_record_left true u out z = written_kept u out z
 state_record_left false u out z = refl
 
@@ -157,7 +157,7 @@ abbrev three : BenchPut → List ℕ × List ℕ × List ℕ
 three r = (r.state, r.out, r.back)
 
 bench_left : (j : J) (i : I) (s out back : List ℕ) → Refusing (fresh_put j i s out back).told → three (fresh_put j i s out back) ≡ (s, out, back)
-unfolding fresh_put bench_fresh bench_told bench_refused marks when◌then◌else◌
+unfolding fresh_put bench_fresh bench_told bench_refused marks chosen
 bench_left j i s out back z =
     by_test (eqb (length s) 62)
     (λ t. by_test (eqb (length out) 2048 && eqb (length back) 2048) (λ u. absurd (z (rw (t, u)))) (λ f. rw (t, f)))

@@ -5,6 +5,7 @@ use mathlib.Core.Bool.{Bool, true, false}
 use mathlib.Core.List.{List, [], ◌∷◌, map}
 use lib.ListN.{get_or, set, replicate}
 use Rattle.ground.specs.Cell.{spaces}
+use Rattle.ground.specs.declared.refusals.Refusal.TheVariants.{WrongField}
 use Rattle.wire.specs.declared.Head.TheVariants as head
 use Rattle.numbers.specs.Numbers.{numbers_fresh}
 use Rattle.numbers.specs.declared.Numbers.{Numbers}
@@ -27,7 +28,7 @@ use Rattle.boundary.specs.Controller as controller
 -- ## The byte
 
 abbrev telling : Bool → Bool → List ℕ
-telling sent keep = map (λ (r : Report). told r sent keep) (Nothing ∷ Delivered ∷ Ok ∷ Lost ∷ Refused 15 ∷ [])
+telling sent keep = map (λ (r : Report). told r sent keep) (Nothing ∷ Delivered ∷ Ok ∷ Lost ∷ Refused WrongField ∷ [])
 
 pub told_plain : telling false false ≡ 0 ∷ 64 ∷ 65 ∷ 66 ∷ 15 ∷ []
 unfolding marks

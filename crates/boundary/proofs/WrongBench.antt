@@ -13,7 +13,7 @@ use denote.Triple.Clauses.{AtExit}
 use lib.ListN.{length, get_or, set, replicate}
 use Rattle.ground.specs.Bytes.{Bytes}
 use Rattle.ground.specs.Cell.{cells, is_message, spaces}
-use Rattle.ground.specs.Choice.{when◌then◌else◌}
+use Rattle.ground.specs.Choice.{chosen}
 use Rattle.ground.specs.Every.{filled}
 use Rattle.ground.specs.First.{first}
 use Rattle.ground.proofs.Promise.{RulesOut, unequal}
@@ -80,16 +80,16 @@ abbrev asked : Result
 asked = record { outcome = record { report = report.Nothing; message = spaces; bench = asking 1 }; out = needed; back = clear }
 
 reads_back : bench_at (bench_bytes (asking 0)) ≡ asking 0
-unfolding bench_at parts_at bench_bytes console.console_bytes console.console_at console.is_state console.fields_at controller.controller_bytes controller.controller_at controller.is_state controller.fields_at bytes_of value when◌then◌else◌
+unfolding bench_at parts_at bench_bytes console.console_bytes console.console_at console.is_state console.fields_at controller.controller_bytes controller.controller_at controller.is_state controller.fields_at bytes_of value chosen
 reads_back = refl
 
 sends : bench_step (asking 0) asks_once clear clear ≡ asked
 unfolding bench_step bench_told bench_back bench_means bench_ok console_ok console_mode controller_ok controller_mode table_ok heads_pass packets channel laid
-    readings rules.rules is_message cells filled letters among letter when◌then◌else◌
+    readings rules.rules is_message cells filled letters among letter chosen
 sends = refl
 
 writes : (d : List ℕ) → stepped (bench_bytes (asking 0)) d asked ≡ record { told = 0; state = bench_bytes (asking 1); out = needed; back = clear; delivered = d }
-unfolding bench_bytes console.console_bytes controller.controller_bytes bytes_of marks written when◌then◌else◌
+unfolding bench_bytes console.console_bytes controller.controller_bytes bytes_of marks written chosen
 writes d = refl
 
 sent : (d : List ℕ) → step_put (bench_bytes (asking 0)) asks_once clear clear d ≡ record { told = 0; state = bench_bytes (asking 1); out = needed; back = clear; delivered = d }
@@ -133,7 +133,7 @@ module _ (κs : Lfts 5) (a : Dens κs step-kinds.ps) (n : ℕ) (s : AtExit (ende
 
 -- no bytes at all are a state that is not well formed, whatever the tables
 untrusted : (out back d : List ℕ) → step_put [] asks_once out back d ≡ record { told = 2; state = []; out = out; back = back; delivered = d }
-unfolding bench_at bench_step bench_refused bench_ok console_ok filled line letters among letter when◌then◌else◌
+unfolding bench_at bench_step bench_refused bench_ok console_ok filled line letters among letter chosen
 untrusted out back d = refl
 
 module _ (κs : Lfts 5) (a : Dens κs step-kinds.ps) (n : ℕ) (s : AtExit (ended_of 5 step-kinds.ps step-kinds.r) κs) (none : a.0.now ≡ []) (does : ◌≡◌ {A = Action} (record { letter = a.1.1.1.0; place = a.1.1.1.1.0; copies = a.1.1.1.1.1.0; message = a.1.1.1.1.1.1.0.now }) asks_once) (meets : step.Post κs a n s) where
@@ -163,16 +163,16 @@ abbrev told_ok : Result
 told_ok = record { outcome = record { report = report.Ok; message = spaces; bench = idle_with false }; out = clear; back = clear }
 
 ok_reads_back : bench_at (bench_bytes (idle_with true)) ≡ idle_with true
-unfolding bench_at parts_at bench_bytes console.console_bytes console.console_at console.is_state console.fields_at controller.controller_bytes controller.controller_at controller.is_state controller.fields_at bytes_of value when◌then◌else◌
+unfolding bench_at parts_at bench_bytes console.console_bytes console.console_at console.is_state console.fields_at controller.controller_bytes controller.controller_at controller.is_state controller.fields_at bytes_of value chosen
 ok_reads_back = refl
 
 tells_ok : bench_step (idle_with true) reads_once clear clear ≡ told_ok
 unfolding bench_step bench_told bench_back bench_means bench_ok console_ok console_mode controller_ok controller_mode table_ok heads_pass packets channel laid
-    readings rules.rules is_message cells filled letters among letter when◌then◌else◌
+    readings rules.rules is_message cells filled letters among letter chosen
 tells_ok = refl
 
 writes_lost : (d : List ℕ) → stepped (bench_bytes (idle_with true)) d told_ok ≡ record { told = 65; state = bench_bytes (idle_with false); out = clear; back = clear; delivered = d }
-unfolding bench_bytes console.console_bytes controller.controller_bytes bytes_of marks written when◌then◌else◌
+unfolding bench_bytes console.console_bytes controller.controller_bytes bytes_of marks written chosen
 writes_lost d = refl
 
 -- read through the entry: 65, and lost from then on
@@ -193,13 +193,13 @@ abbrev no_flag : List ℕ
 no_flag = set (bench_bytes (idle_with true)) 20 2
 
 pub bench_no_flag_refused : (out back d : List ℕ) → step_put no_flag reads_once out back d ≡ record { told = 2; state = no_flag; out = out; back = back; delivered = d }
-unfolding bench_at parts_at bench_bytes console.console_bytes console.console_at console.is_state controller.controller_bytes bytes_of bench_step bench_refused bench_ok console_ok filled line letters among letter when◌then◌else◌
+unfolding bench_at parts_at bench_bytes console.console_bytes console.console_at console.is_state controller.controller_bytes bytes_of bench_step bench_refused bench_ok console_ok filled line letters among letter chosen
 bench_no_flag_refused out back d = refl
 
 -- ## Fresh: with a state of 62 bytes and tables of 2,048
 
 fresh_clears : (j : J) (i : I) (s out back : List ℕ) → length s ≡ 62 → length out ≡ 2048 → length back ≡ 2048 → ((fresh_put j i s out back).told ≡ 0) × ((fresh_put j i s out back).out ≡ clear) × ((fresh_put j i s out back).back ≡ clear)
-unfolding fresh_put bench_fresh bench_told rules.fresh channel laid marks when◌then◌else◌
+unfolding fresh_put bench_fresh bench_told rules.fresh channel laid marks chosen
 fresh_clears j i s out back l m n = rw (eq-eqb (length s) 62 l, eq-eqb (length out) 2048 m, eq-eqb (length back) 2048 n) (refl, refl, refl)
 
 module _ (κs : Lfts 3) (a : Dens κs fresh-kinds.ps) (n : ℕ) (s : AtExit (ended_of 3 fresh-kinds.ps fresh-kinds.r) κs) (state_long : length a.0.now ≡ 62) (out_long : length a.1.0.now ≡ 2048) (back_long : length a.1.1.0.now ≡ 2048) (meets : fresh.Post κs a n s) where
@@ -223,7 +223,7 @@ module _ (κs : Lfts 3) (a : Dens κs fresh-kinds.ps) (n : ℕ) (s : AtExit (end
 module _ (s out back : List ℕ) (l : length s ≡ 62) (two : get_or s 60 0 ≡ 2) (none : get_or s 61 0 ≡ 0) (m : length out ≡ 2048) (k : length back ≡ 2048) where
   -- the second, a third, and the second to the console
   show_told : (show_at s out back 2 1 ≡ 0) × (show_at s out back 2 2 ≡ 3) × (show_at s out back 1 1 ≡ 3)
-  unfolding show_at show_to show_refusal first when◌then◌else◌
+  unfolding show_at show_to show_refusal first chosen
   show_told = rw (l, two, none, m, k) (refl, refl, refl)
 
 module _ (κs : Lfts 4) (a : Dens κs show-kinds.ps) (n : ℕ) (s : AtExit (ended_of 4 show-kinds.ps show-kinds.r) κs) (l : length a.0.now ≡ 62) (two : get_or a.0.now 60 0 ≡ 2) (none : get_or a.0.now 61 0 ≡ 0) (m : length a.1.0.now ≡ 2048) (k : length a.1.1.0.now ≡ 2048) (meets : show.Post κs a n s) where
@@ -235,7 +235,7 @@ module _ (κs : Lfts 4) (a : Dens κs show-kinds.ps) (n : ℕ) (s : AtExit (ende
 
   module _ (end : a.1.1.1.0 ≡ 2) where
     pub show_always_first : a.1.1.1.1.0 ≡ 1 → s.1.1.1.1.1.0.now ≡ 0 → ⊥
-    unfolding offset_at when◌then◌else◌
+    unfolding offset_at chosen
     show_always_first place e =
         let q = meets.1 ∙ (λ i. offset_at (at (end i) (place i)) (place i) a.1.1.1.1.1.0.now) ∙ ap (λ (r : ℕ). offset_at r 1 a.1.1.1.1.1.0.now) shows.0 in
         let z : ◌≡◌ {A = ℕ} 0 32 = sym e ∙ q in

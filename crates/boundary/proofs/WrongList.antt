@@ -8,7 +8,7 @@ use contract.Lifetimes.{Lfts}
 use borrow.Fn.Kinds.{Dens, ended_of}
 use denote.Triple.Clauses.{AtExit}
 use lib.ListN.{length, get_or, drop}
-use Rattle.ground.specs.Choice.{when◌then◌else◌}
+use Rattle.ground.specs.Choice.{chosen}
 use Rattle.bench.specs.Running.{records_of, lines, limit_of, list_lines, Ran, list_run}
 use Rattle.bench.proofs.Echoes.{put, second_line}
 use Rattle.boundary.proofs.lists.nooseless_run.Kinds as run-kinds
@@ -20,7 +20,7 @@ module _ (κs : Lfts 2) (a : Dens κs run-kinds.ps) (n : ℕ) (s : AtExit (ended
   rest = drop (length (list_lines 2 (put ++ put))) a.1.0.now
 
   written_so : s.1.0.now ≡ list_lines 2 (put ++ put) ++ rest
-  unfolding list_run limit_of when◌then◌else◌
+  unfolding list_run limit_of chosen
   written_so = ap (λ (r : Ran). r.output) meets ∙ (λ i. list_lines (limit_of (room i)) (two i) ++ drop (length (list_lines (limit_of (room i)) (two i))) a.1.0.now)
 
   -- it says -- of the second, as it said of the first

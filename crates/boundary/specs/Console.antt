@@ -1,18 +1,19 @@
 -- A console's state as 37 bytes, and what each entry for it does. Assumes nothing.
-use Rattle.std.specs.Prelude.{ℕ, Bool, false, ◌&&◌, List, [], ◌∷◌, ◌++◌, length, get_or, drop, eqb, leb}
+use Rattle.std.specs.Prelude.{ℕ, Bool, false, ◌&&◌, List, [], ◌∷◌, ◌++◌, length, get_or, drop, eqb, leb, Result}
 use Rattle.ground.specs.Choice.{when◌then◌else◌}
 use Rattle.ground.specs.Cell.{spaces}
+use Rattle.ground.specs.declared.refusals.Refusal.{Refusal}
 use Rattle.wire.specs.Frame.{field}
 use Rattle.wire.specs.Number.{bytes_of, value}
 use Rattle.wire.specs.Record.{record_read}
 use Rattle.wire.specs.declared.NumberRecord.{NumberRecord}
 use Rattle.wire.specs.declared.NumberRecord.TheVariants as number-record
-use Rattle.numbers.specs.Numbers.{numbers_kept, numbers_fresh}
+use Rattle.numbers.specs.Numbers.{numbers_fresh}
+use Rattle.numbers.specs.declared.Numbers.{Numbers}
 use Rattle.ends_console.specs.Fields.{downed_console}
 use Rattle.ends_console.specs.declared.fields.Console.{Console}
 use Rattle.alone.specs.ConsoleAlone.{ConsoleAlone, console_alone}
-use Rattle.boundary.specs.declared.state.Start.{Start}
-use Rattle.boundary.specs.State.{numbers_bytes, numbers_at, flag, is_refusal, changed, told, start_in, written}
+use Rattle.boundary.specs.State.{numbers_bytes, numbers_at, flag, is_refusal, changed, told, start_in, start_bytes, written}
 
 -- 0-9 its numbers, of J; 10-13 j; 14-17 last; 18 held; 19 up; 20 ack, 1 for OK. Flags are 0 or 1
 abbrev pub front : Console → List ℕ
@@ -52,11 +53,11 @@ console_record c = number-record.Console (record { 0 = c.numbers.reserved }) c.n
 
 -- ## Start after power loss
 
-abbrev pub start_at : List ℕ → Start
+abbrev pub start_at : List ℕ → Result Numbers Refusal
 start_at r = start_in 1 (record_read r)
 
 abbrev pub downed_bytes : List ℕ → List ℕ
-downed_bytes r = console_bytes (downed_console (numbers_kept (start_at r).number (start_at r).block))
+downed_bytes r = start_bytes (λ n. console_bytes (downed_console n)) (start_at r)
 
 -- ## A step
 

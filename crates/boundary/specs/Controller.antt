@@ -1,19 +1,20 @@
 -- A controller's state as 23 bytes, and what each entry for it does. Assumes nothing.
-use Rattle.std.specs.Prelude.{ℕ, Bool, false, ◌&&◌, List, [], ◌∷◌, ◌++◌, length, get_or, eqb, leb}
+use Rattle.std.specs.Prelude.{ℕ, Bool, false, ◌&&◌, List, [], ◌∷◌, ◌++◌, length, get_or, eqb, leb, Result}
 use Rattle.ground.specs.Choice.{when◌then◌else◌}
+use Rattle.ground.specs.declared.refusals.Refusal.{Refusal}
 use Rattle.wire.specs.Frame.{field}
 use Rattle.wire.specs.Number.{bytes_of, value}
 use Rattle.wire.specs.Record.{record_read}
 use Rattle.wire.specs.declared.NumberRecord.{NumberRecord}
 use Rattle.wire.specs.declared.NumberRecord.TheVariants as number-record
-use Rattle.numbers.specs.Numbers.{numbers_kept, numbers_fresh}
+use Rattle.numbers.specs.Numbers.{numbers_fresh}
+use Rattle.numbers.specs.declared.Numbers.{Numbers}
 use Rattle.ends_controller.specs.Fields.{downed_controller}
 use Rattle.ends.specs.declared.Report.{Report}
 use Rattle.ends.specs.declared.Report.TheVariants as report
 use Rattle.ends_controller.specs.declared.fields.Controller.{Controller}
 use Rattle.alone.specs.ControllerAlone.{ControllerAlone, controller_alone}
-use Rattle.boundary.specs.declared.state.Start.{Start}
-use Rattle.boundary.specs.State.{numbers_bytes, numbers_at, flag, is_refusal, changed, told, start_in, written}
+use Rattle.boundary.specs.State.{numbers_bytes, numbers_at, flag, is_refusal, changed, told, start_in, start_bytes, written}
 
 -- 0-9 its numbers, of I; 10-13 j; 14-17 i; 18-21 last; 22 up. The flag is 0 or 1
 unfoldable pub controller_bytes : Controller → List ℕ
@@ -48,11 +49,11 @@ controller_record c = number-record.Controller (record { 0 = c.numbers.reserved 
 
 -- ## Start after power loss
 
-abbrev pub start_at : List ℕ → Start
+abbrev pub start_at : List ℕ → Result Numbers Refusal
 start_at r = start_in 2 (record_read r)
 
 abbrev pub downed_bytes : List ℕ → List ℕ
-downed_bytes r = controller_bytes (downed_controller (numbers_kept (start_at r).number (start_at r).block))
+downed_bytes r = start_bytes (λ n. controller_bytes (downed_controller n)) (start_at r)
 
 -- ## A step
 
@@ -68,7 +69,7 @@ delivered_to report.Nothing m out = out
 delivered_to report.Delivered m out = m
 delivered_to report.Ok m out = out
 delivered_to report.Lost m out = out
-delivered_to (report.Refused n) m out = out
+delivered_to (report.Refused r) m out = out
 
 -- what the controller run alone does, with its fields in the state; a refusal leaves the state
 abbrev pub stepped : List ℕ → List ℕ → ControllerAlone → ControllerStep

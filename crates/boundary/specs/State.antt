@@ -1,16 +1,17 @@
 -- What the states of both ends share: numbers, flags, what a step tells, and what a start takes from a number record. Assumes nothing.
-use Rattle.std.specs.Prelude.{ℕ, ◌+◌, ◌*◌, Bool, true, false, not, ◌&&◌, List, ◌++◌, length, eqb}
+use Rattle.std.specs.Prelude.{ℕ, ◌+◌, ◌*◌, Bool, true, false, not, ◌&&◌, List, [], ◌++◌, length, eqb, Result, Ok, Err}
 use Rattle.ground.specs.Choice.{when◌then◌else◌}
+use Rattle.ground.specs.Refusals as refusals
+use Rattle.ground.specs.declared.refusals.Refusal.{Refusal}
+use Rattle.ground.specs.declared.refusals.Refusal.TheVariants.{WrongField}
 use Rattle.wire.specs.Frame.{field}
 use Rattle.wire.specs.Number.{bytes_of, value}
 use Rattle.wire.specs.Record.{end_of, number_of, block_of, record_write_refusal, record_written, renewed}
 use Rattle.wire.specs.declared.NumberRecord.{NumberRecord}
-use Rattle.wire.specs.declared.ReadRecord.{ReadRecord}
-use Rattle.wire.specs.declared.ReadRecord.TheVariants as read-record
+use Rattle.numbers.specs.Numbers.{numbers_kept}
 use Rattle.numbers.specs.declared.Numbers.{Numbers}
 use Rattle.ends.specs.declared.Report.{Report}
 use Rattle.ends.specs.declared.Report.TheVariants as report
-use Rattle.boundary.specs.declared.state.Start.{Start}
 
 -- 0-3 last used; 4-7 reserved; 8-9 block. Numbers are big-endian
 abbrev pub numbers_bytes : Numbers → List ℕ
@@ -29,7 +30,7 @@ is_refusal report.Nothing = false
 is_refusal report.Delivered = false
 is_refusal report.Ok = false
 is_refusal report.Lost = false
-is_refusal (report.Refused n) = true
+is_refusal (report.Refused r) = true
 
 -- whether reserved or block is another, and so the end's number record, which has to be kept before the packet leaves and before the report is shown
 abbrev pub changed : Numbers → Numbers → Bool
@@ -45,16 +46,21 @@ told report.Nothing sent keep = marks sent keep
 told report.Delivered sent keep = 64 + marks sent keep
 told report.Ok sent keep = 65 + marks sent keep
 told report.Lost sent keep = 66 + marks sent keep
-told (report.Refused n) sent keep = n
+told (report.Refused r) sent keep = refusals.number_of r
 
 -- a record of the other end is 15
-unfoldable pub start_of : ℕ → NumberRecord → Start
-start_of end r = when eqb (end_of r) end then record { refusal = 0; number = number_of r; block = block_of r } else record { refusal = 15; number = 0; block = 0 }
+unfoldable pub start_of : ℕ → NumberRecord → Result Numbers Refusal
+start_of end r = when eqb (end_of r) end then Ok (numbers_kept (number_of r) (block_of r)) else Err WrongField
 
 -- a record of version 1 is carried to version 2 first
-abbrev pub start_in : ℕ → ReadRecord → Start
-start_in end (read-record.Refused n) = record { refusal = n; number = 0; block = 0 }
-start_in end (read-record.Is r) = start_of end (renewed r)
+abbrev pub start_in : ℕ → Result NumberRecord Refusal → Result Numbers Refusal
+start_in end (Err r) = Err r
+start_in end (Ok r) = start_of end (renewed r)
+
+-- the bytes of what is started; of a start that is refused there are none
+abbrev pub start_bytes : {A : Type 0} → (A → List ℕ) → Result A Refusal → List ℕ
+start_bytes bytes (Err r) = []
+start_bytes bytes (Ok a) = bytes a
 
 -- ## A state of n bytes
 
@@ -66,10 +72,10 @@ unfoldable pub written : ℕ → List ℕ → List ℕ → List ℕ
 written n s bytes = when eqb (length s) n then bytes else s
 
 -- a start after power loss, from the end's own number record: 2, then 12 to 15
-unfoldable pub start_refusal : ℕ → List ℕ → Start → ℕ
-start_refusal n s l = when eqb (length s) n then l.refusal else 2
+unfoldable pub start_refusal : {A : Type 0} → ℕ → List ℕ → Result A Refusal → ℕ
+start_refusal n s l = when eqb (length s) n then refusals.refusal_in l else 2
 
-unfoldable pub started : ℕ → List ℕ → Start → List ℕ → List ℕ
+unfoldable pub started : {A : Type 0} → ℕ → List ℕ → Result A Refusal → List ℕ → List ℕ
 started n s l bytes = when eqb (start_refusal n s l) 0 then bytes else s
 
 -- the number record of a state that is well formed or not: 2, then 12

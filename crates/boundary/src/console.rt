@@ -1,18 +1,18 @@
 // A console in C's hands: its state is 37 bytes that the caller keeps.
 ghost use Rattle.std.specs.Prelude.{◌≡◌, [], ◌∷◌, ◌++◌, length, drop};
-ghost use Rattle.ground.specs.Choice.{when◌then◌else◌};
 ghost use Rattle.wire.specs.Number.{bytes_of};
 ghost use Rattle.ends_console.specs.Fields.{fresh_console, console_ok};
-ghost use Rattle.boundary.specs.State.{flag, is_refusal, length_refusal, written, start_refusal, started, state_record_refusal, state_record_put};
+ghost use Rattle.boundary.specs.State.{flag, length_refusal, written, start_refusal, started, state_record_refusal, state_record_put};
 ghost use Rattle.boundary.specs.Console.{console_bytes, fields_at, no_console, console_at};
 ghost use Rattle.boundary.specs.Console.{console_record, start_at, downed_bytes, console_state_step};
 
 use crate::state::{
-    changed, fill, flag, is_refusal, number_at, numbers_at, put_numbers, start_in, told,
+    State, changed, keep, number_at, numbers_at, put_numbers, put_record, start, start_in, told,
+    told_refusal, write,
 };
-use ends::Report;
 use ends_console::fields;
-use ends_console::fields::{Console, ConsoleRead};
+use ends_console::fields::Console;
+use numbers::Numbers;
 use wire::{I, J, NumberRecord};
 
 fn message_at(s: &[u8]) -> [u8; 16]
@@ -24,20 +24,17 @@ fn message_at(s: &[u8]) -> [u8; 16]
     m
 }
 
+#[tactic(auto, unfolding(crate::specs::Console::fields_at))]
 fn fields_at(s: &[u8]) -> Console
     requires { length s.now ≡ 37 }
     ensures { result ≡ fields_at s.now }
 {
-    let numbers = numbers_at(s);
-    let j = J(number_at(s, 10));
-    let last = I(number_at(s, 14));
-    let message = message_at(s);
     Console {
-        numbers,
+        numbers: numbers_at(s),
         held: s[18] == 1,
-        message,
-        j,
-        last,
+        message: message_at(s),
+        j: J(number_at(s, 10)),
+        last: I(number_at(s, 14)),
         up: s[19] == 1,
         ack: s[20] == 1,
     }
@@ -48,29 +45,16 @@ pub(crate) fn no_console() -> Console
     ensures { result ≡ no_console }
 {
     Console {
-        numbers: numbers::fresh(0),
-        held: false,
-        message: [0x20; 16],
         j: J(1),
-        last: I(0),
-        up: false,
-        ack: false,
+        ..fields::downed_console(Numbers::fresh(0))
     }
 }
 
+#[tactic(auto, using(ground::proofs::Cases::cases), unfolding(crate::specs::Console::console_at, crate::specs::Console::is_state, ground::specs::Choice::chosen))]
 pub(crate) fn console_at(s: &[u8]) -> Console
     ensures { result ≡ console_at s.now }
 {
-    if s.len() != 37 {
-        return no_console();
-    }
-    if 1 < s[18] {
-        return no_console();
-    }
-    if 1 < s[19] {
-        return no_console();
-    }
-    if 1 < s[20] {
+    if s.len() != 37 || s[18] > 1 || s[19] > 1 || s[20] > 1 {
         return no_console();
     }
     fields_at(s)
@@ -81,82 +65,48 @@ fn put_rest(part: &mut [u8], c: Console)
     requires { length part.old ≡ 11 }
     ensures { part.new ≡ bytes_of 4 c.j.0 ++ (bytes_of 4 c.last.0 ++ (flag c.held ∷ flag c.up ∷ flag c.ack ∷ [])) }
 {
-    let j = wire::big_endian(c.j.0);
-    let last = wire::big_endian(c.last.0);
-    let flags = [flag(c.held), flag(c.up), flag(c.ack)];
-    fill(&mut part[0..4], &j);
-    fill(&mut part[4..8], &last);
-    fill(&mut part[8..11], &flags);
+    part[..4].copy_from_slice(&wire::big_endian(c.j.0));
+    part[4..8].copy_from_slice(&wire::big_endian(c.last.0));
+    part[8..].copy_from_slice(&[u8::from(c.held), u8::from(c.up), u8::from(c.ack)]);
 }
 
-pub(crate) fn put_console(state: &mut [u8], c: Console)
-    requires { length state.old ≡ 37 }
-    ensures { state.new ≡ console_bytes c }
-{
-    let numbers = c.numbers;
-    let message = c.message;
-    put_numbers(&mut state[0..10], numbers);
-    put_rest(&mut state[10..21], c);
-    fill(&mut state[21..37], &message);
-}
+impl State for Console {
+    ghost LENGTH = { 37 };
 
-fn write_console(state: &mut [u8], c: Console) -> u8
-    ensures { (result ≡ length_refusal 37 state.old) × (state.new ≡ written 37 state.old (console_bytes c)) }
-{
-    if state.len() != 37 {
-        return 2;
+    ghost bytes = { console_bytes };
+
+    const LENGTH: usize = 37;
+
+    fn put(self, state: &mut [u8]) {
+        put_numbers(&mut state[..10], self.numbers);
+        put_rest(&mut state[10..21], self);
+        state[21..].copy_from_slice(&self.message);
     }
-    put_console(state, c);
-    0
 }
 
 // Up and idle, with any last used.
 pub fn nooseless_console_fresh(state: &mut [u8], last_used: u32) -> u8
     ensures { (result ≡ length_refusal 37 state.old) × (state.new ≡ written 37 state.old (console_bytes (fresh_console (record { 0 = last_used })))) }
 {
-    write_console(state, fields::fresh_console(J(last_used)))
+    told_refusal(write(state, fields::fresh_console(J(last_used))))
 }
 
 // After power loss: down, with the numbers of the console's number record, of either version, and no answer.
+#[tactic(auto, unfolding(crate::specs::State::start_refusal, crate::specs::State::started, ground::specs::Choice::chosen))]
 pub fn nooseless_console_downed(state: &mut [u8], record: &[u8]) -> u8
     ensures { (result ≡ start_refusal 37 state.old (start_at «record».now)) × (state.new ≡ started 37 state.old (start_at «record».now) (downed_bytes «record».now)) }
 {
-    let start = start_in(1, record);
-    if state.len() != 37 {
-        return 2;
-    }
-    if start.refusal != 0 {
-        return start.refusal;
-    }
-    put_console(
-        state,
-        fields::downed_console(numbers::kept(start.number, start.block)),
-    );
-    0
+    told_refusal(start(state, start_in(1, record).map(fields::downed_console)))
 }
 
 // The number record to keep where a step told that it changed.
+#[tactic(auto, unfolding(ends_console::specs::Fields::console_read, ground::specs::Choice::chosen))]
 pub fn nooseless_console_record(state: &[u8], out: &mut [u8]) -> u8
     ensures { (result ≡ state_record_refusal (console_ok (console_at state.now)) (console_record (console_at state.now)) out.old) × (out.new ≡ state_record_put (console_ok (console_at state.now)) (console_record (console_at state.now)) out.old) }
 {
     let c = console_at(state);
-    let reserved = J(c.numbers.reserved);
-    let block = c.numbers.block;
-    let read = fields::read_console(c);
-    match read {
-        ConsoleRead::IllFormed => 2,
-        ConsoleRead::Is(_) => wire::write_record(out, NumberRecord::Console(reserved, block)),
-    }
-}
-
-// A refusal leaves the state.
-fn keep(state: &mut [u8], report: Report, after: Console)
-    ensures { state.new ≡ (when is_refusal report then state.old else written 37 state.old (console_bytes after)) }
-{
-    if is_refusal(report) {
-        return;
-    }
-    write_console(state, after);
+    let kept = NumberRecord::Console(J(c.numbers.reserved), c.numbers.block);
+    told_refusal(put_record(out, fields::read_console(c).is_some(), kept))
 }
 
 // P Q D S C V A of a console run alone.
@@ -170,11 +120,11 @@ pub fn nooseless_console_step(
     ensures { record { told = result; state = state.new; reply = reply.new } ≡ console_state_step state.old letter message.now packet.now reply.old }
 {
     let c = console_at(state);
-    let before = c.numbers;
     let done = alone::console::step(c, letter, message, packet, reply);
-    let report = done.report;
-    let after = done.console;
-    let numbers = after.numbers;
-    keep(state, report, after);
-    told(report, done.sent, changed(before, numbers))
+    keep(state, done.report, done.console);
+    told(
+        done.report,
+        done.sent,
+        changed(c.numbers, done.console.numbers),
+    )
 }

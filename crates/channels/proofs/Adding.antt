@@ -8,7 +8,7 @@ use native.Mathlib.Nat.{add-zero}
 use borrow.Author.Tests.{ne_eqb, le-leb, lt-leb}
 use lib.ListN.{length, take, drop, replicate, length-append, length-drop, take-append-drop}
 use lib.Seq.{length-take-le, drop-drop}
-use Rattle.ground.specs.Choice.{when◌then◌else◌}
+use Rattle.ground.specs.Choice.{chosen, when◌then◌else◌}
 use Rattle.ground.proofs.Tests.{by_test}
 use Rattle.wire.specs.declared.Packet.{Packet}
 use Rattle.wire.specs.Packet.{fits, packet_bytes, packet_written}
@@ -24,7 +24,7 @@ module _ (t : List ℕ) (count : ℕ) (p : Packet) where
   after i = when fits p then with_copies t count i p else t
 
   pub after_none : t ≡ after 0
-  unfolding after when◌then◌else◌ laid
+  unfolding after chosen laid
   after_none = by_test (fits p) (λ y. rw (y, add-zero, take-append-drop (count * 32) t)) (λ n. rw n)
 
   one_more : (i : ℕ) → fits p ≡ true → length t ≡ 2048 → count + i < 64 → replaced (with_copies t count i p) ((count + i) * 32) ((count + i) * 32 + 32) (packet_bytes p) ≡ with_copies t count (i + 1) p
@@ -47,7 +47,7 @@ module _ (t : List ℕ) (count : ℕ) (p : Packet) where
 
   -- a turn: the place after the copies is lent to the writer
   pub add_on : (copies i : ℕ) (x : List ℕ) {y : List ℕ} → x ≡ after i → length x ≡ length t → i < copies → copies ≤ 64 - count → length t ≡ 2048 → y ≡ packet_written (part x ((count + i) * 32) ((count + i) * 32 + 32)) p → replaced x ((count + i) * 32) ((count + i) * 32 + 32) y ≡ after (i + 1)
-  unfolding after when◌then◌else◌
+  unfolding after chosen
   add_on copies i x {y} e m h k l f =
       let n = (count + i) * 32 in
       let b : count + i < 64 = omega (arith, h, k) in
@@ -63,11 +63,11 @@ module _ (t : List ℕ) (count : ℕ) (p : Packet) where
 
   -- what is left of a table: it is none, the count is too great, there is no room, and it is done
   pub add_short : (copies : ℕ) → (length t ≡ 2048 → ⊥) → t ≡ added t count copies p
-  unfolding added when◌then◌else◌
+  unfolding added chosen
   add_short copies h = rw (ne_eqb (length t) 2048 h)
 
   full : (copies : ℕ) → length t ≡ 2048 → 64 < count + copies → t ≡ added t count copies p
-  unfolding added when◌then◌else◌
+  unfolding added chosen
   full copies l h = rw (l, lt-leb (count + copies) 64 h)
 
   pub add_many : (copies : ℕ) → length t ≡ 2048 → 64 < count → t ≡ added t count copies p
@@ -77,7 +77,7 @@ module _ (t : List ℕ) (count : ℕ) (p : Packet) where
   add_full copies l h k = full copies l (omega (arith, h, k))
 
   pub add_end : (copies i : ℕ) {x : List ℕ} → x ≡ after i → copies ≤ i → i ≤ copies → count ≤ 64 → copies ≤ 64 - count → length t ≡ 2048 → x ≡ added t count copies p
-  unfolding added after when◌then◌else◌
+  unfolding added after chosen
   add_end copies i e h k c m l =
       let d : i ≡ copies = omega (arith, h, k) in
       e ∙ rw (d, l, le-leb (count + copies) 64 (omega (arith, c, m)))

@@ -8,8 +8,9 @@ use native.Mathlib.Omega.{arith}
 use borrow.Author.Tests.{le-leb}
 use lib.ListN.{length, take, drop, replicate, length-append, length-drop, length-replicate, take-append-drop}
 use lib.Seq.{take_at, drop_at, take-add}
+use Rattle.std.specs.Prelude.{Ok as Okay}
 use Rattle.ground.specs.Bytes.{Bytes}
-use Rattle.ground.specs.Choice.{when◌then◌else◌}
+use Rattle.ground.specs.Choice.{chosen}
 use Rattle.ground.specs.Every.{filled}
 use Rattle.ground.specs.Lists.{at, without, All, Opt}
 use Rattle.ground.proofs.Bytes.{bytes_take, bytes_drop}
@@ -18,13 +19,12 @@ use Rattle.ground.proofs.Lists.{all_at}
 use Rattle.ground.proofs.Tests.{and_left, and_right}
 use Rattle.wire.specs.declared.Direction.{Direction}
 use Rattle.wire.specs.declared.Packet.{Packet}
-use Rattle.wire.specs.declared.ReadPacket.{ReadPacket}
-use Rattle.wire.specs.Packet.{direction_of, fits, packet_bytes, packet_read, accepted}
+use Rattle.wire.specs.Packet.{direction_of, fits, packet_bytes, head_read, packet_read, accepted}
 use Rattle.wire.proofs.PacketsFit.{Typed, packet_long}
-use Rattle.wire.proofs.Trips.{read_back}
+use Rattle.wire.proofs.Trips.{read_back, was_read}
 use Rattle.tables.specs.Table.{is_table, taken_out}
 use Rattle.tables.proofs.Places.{Placed, zeros_left, is_long, is_few, laid_append, laid_length, table_none, table_length, above, bytes_at_is, taken_out_is, holds_length, holds_table}
-use Rattle.channels.specs.Table.{laid, channel, packets, packet_at, same_way, goes, heads_pass, places_ok, table_ok, added}
+use Rattle.channels.specs.Table.{laid, channel, packets, packet_at, head_at, same_way, goes, heads_pass, places_ok, table_ok, added}
 
 -- ## What a well-formed table is
 
@@ -56,7 +56,7 @@ pub record Coded {A : Type 0} (dir : Direction) (packet : A → Packet) (bytes :
   pub fitting : (p : A) → Ok p → fits (packet p) ≡ true
   pub typed : (p : A) → Ok p → Typed (packet p)
   pub again : (p : A) → Ok p → reads (bytes p) ≡ p
-  pub back : (s : List ℕ) → Bytes s → goes dir (packet_read s).head ≡ true → (bytes (reads s) ≡ s) × Ok (reads s)
+  pub back : (s : List ℕ) → Bytes s → goes dir (head_read s) ≡ true → (bytes (reads s) ≡ s) × Ok (reads s)
 
 module _ {A : Type 0} {dir : Direction} {packet : A → Packet} {bytes : A → List ℕ} {reads : List ℕ → A} {Ok : A → Type 0} (code : Coded dir packet bytes reads Ok) where
   long : (p : A) → Ok p → length (bytes p) ≡ 32
@@ -81,6 +81,12 @@ module _ {A : Type 0} {dir : Direction} {packet : A → Packet} {bytes : A → L
       let o = at_ok ps k h e in
       ap packet_read (bytes_at_is placed ps k h e ∙ code.same p) ∙ read_back (packet p) (code.typed p o) (code.fitting p o)
 
+  pub head_at_is : (ps : List A) (k : ℕ) {p : A} → All Ok ps → at ps k ≡ some p → head_at (channel bytes ps) k ≡ Okay (packet p).head
+  unfolding head_at
+  head_at_is ps k {p} h e =
+      let o = at_ok ps k h e in
+      ap head_read (bytes_at_is placed ps k h e ∙ code.same p) ∙ (was_read (packet_bytes (packet p)) (read_back (packet p) (code.typed p o) (code.fitting p o))).0
+
   -- ## A packet taken out, and copies added
 
   pub taken_is : (ps : List A) (k : ℕ) → All Ok ps → length ps ≤ 64 → taken_out (channel bytes ps) (length ps) k ≡ channel bytes (without ps k)
@@ -92,7 +98,7 @@ module _ {A : Type 0} {dir : Direction} {packet : A → Packet} {bytes : A → L
   same_copies (suc n) p = λ i. sym (code.same p) i ++ same_copies n p i
 
   pub added_is : (ps : List A) (n : ℕ) (p : A) → All Ok ps → Ok p → length ps + n ≤ 64 → added (channel bytes ps) (length ps) n (packet p) ≡ channel bytes (ps ++ replicate n p)
-  unfolding added channel when◌then◌else◌
+  unfolding added channel chosen
   added_is ps n p h o k =
       let c = length ps in
       let m = 2048 - (c + n) * 32 in
@@ -119,7 +125,7 @@ module _ {A : Type 0} {dir : Direction} {packet : A → Packet} {bytes : A → L
   unfolding laid packets heads_pass
   laid_packets zero t b h = refl
   laid_packets (suc n) t b h =
-      let g = goes dir (packet_read (take 32 t)).head in
+      let g = goes dir (head_read (take 32 t)) in
       let r = places_ok dir n (drop 32 t) in
       let f : suc n * 32 ≡ 32 + n * 32 = omega arith in
       rw (f, take-add 32 (n * 32) t, (code.back (take 32 t) (bytes_take 32 t b) (and_left g r h)).0, laid_packets n (drop 32 t) (bytes_drop 32 t b) (and_right g r h))
@@ -138,16 +144,16 @@ module _ {A : Type 0} {dir : Direction} {packet : A → Packet} {bytes : A → L
   unfolding packets heads_pass
   places_good zero t b h = tt
   places_good (suc n) t b h =
-      let g = goes dir (packet_read (take 32 t)).head in
+      let g = goes dir (head_read (take 32 t)) in
       let r = places_ok dir n (drop 32 t) in
       ((code.back (take 32 t) (bytes_take 32 t b) (and_left g r h)).1, places_good n (drop 32 t) (bytes_drop 32 t b) (and_right g r h))
 
   pub packets_good : (n : ℕ) (t : List ℕ) → Bytes t → table_ok dir n t ≡ true → All Ok (packets reads n t)
   packets_good n t b h = places_good n t b (table_facts dir n t h).held
 
-  goes_bytes : (p : A) → Ok p → goes dir (packet_read (bytes p)).head ≡ true
+  goes_bytes : (p : A) → Ok p → goes dir (head_read (bytes p)) ≡ true
   goes_bytes p o =
-      ap (λ (r : ReadPacket). goes dir r.head) (ap packet_read (code.same p) ∙ read_back (packet p) (code.typed p o) (code.fitting p o)) ∙ code.way p
+      ap (goes dir) (ap head_read (code.same p) ∙ (was_read (packet_bytes (packet p)) (read_back (packet p) (code.typed p o) (code.fitting p o))).0) ∙ code.way p
 
   places_laid : (ps : List A) (z : List ℕ) → All Ok ps → places_ok dir (length ps) (laid bytes ps ++ z) ≡ true
   unfolding laid heads_pass

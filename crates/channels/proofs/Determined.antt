@@ -7,8 +7,6 @@ use Rattle.channels.proofs.check.packet_at.Kinds as packet-at-kinds
 use Rattle.channels.proofs.check.packet_at.Reads as packet-at
 use Rattle.channels.proofs.check.table_ok.Kinds as table-ok-kinds
 use Rattle.channels.proofs.check.table_ok.Reads as table-ok
-use Rattle.channels.proofs.check.bytes_fit.Kinds as bytes-fit-kinds
-use Rattle.channels.proofs.check.bytes_fit.Reads as bytes-fit
 use Rattle.channels.proofs.change.add.Kinds as add-kinds
 use Rattle.channels.proofs.change.add.Reads as add
 
@@ -20,9 +18,6 @@ packet_at_determined κs a x y s t p q = p ∙ sym q
 
 pub table_ok_determined : Determined table-ok-kinds.ps table-ok-kinds.r table-ok.Post
 table_ok_determined κs a x y s t p q = p ∙ sym q
-
-pub bytes_fit_determined : Determined bytes-fit-kinds.ps bytes-fit-kinds.r bytes-fit.Post
-bytes_fit_determined κs a x y s t p q = refl
 
 pub add_determined : DeterminedWith add-kinds.ps add-kinds.r add.Post (λ κs s. s.0.now)
 add_determined κs a x y s t p q = (refl, p ∙ sym q)

@@ -6,6 +6,9 @@ use mathlib.Core.Bool.{true, false≢true}
 use native.Mathlib.Omega.{arith}
 use borrow.Author.Tests.{le-leb, leb-true}
 use lib.Dec.{leb}
+use Rattle.std.specs.Prelude.{Result, drop}
+use Rattle.std.specs.Prelude as result
+use Rattle.ground.specs.declared.refusals.Refusal.{Refusal}
 use Rattle.ground.specs.Bytes.{Bytes}
 use Rattle.ground.specs.Cell.{is_message}
 use Rattle.ground.proofs.Tests.{and_left, and_right, and_both}
@@ -16,13 +19,9 @@ use Rattle.wire.specs.declared.Head.TheVariants.{NeedI, Offer, Data, Ok, Lost, D
 use Rattle.wire.specs.declared.I.{I}
 use Rattle.wire.specs.declared.J.{J}
 use Rattle.wire.specs.declared.Packet.{Packet}
-use Rattle.wire.specs.declared.ReadHead.{ReadHead}
-use Rattle.wire.specs.declared.ReadHead.TheVariants.{Refused, Is}
-use Rattle.wire.specs.declared.ReadPacket.{ReadPacket}
-use Rattle.wire.specs.Packet.{direction_of, fits, packet_bytes, packet_read, accepted}
+use Rattle.wire.specs.Packet.{direction_of, fits, packet_bytes, head_read, with_message, packet_read, accepted}
 use Rattle.wire.proofs.PacketsFit.{Typed, fits_numbers, fits_message, blank_is, need_i_fits, offer_fits, data_fits, ok_fits, lost_fits, done_fits, first_above, second_above, to_controller_all, to_console_all}
-use Rattle.wire.proofs.Outcomes.{accepted_is}
-use Rattle.wire.proofs.Trips.{read_back, Taken, taken}
+use Rattle.wire.proofs.Trips.{read_back, Taken, taken, was_read}
 use Rattle.rules.specs.Ends.{ToController, need_i, order, done, ToConsole, offer, ok, lost}
 use Rattle.rules.specs.Supply.{numbering, largest}
 use Rattle.rules.specs.WellFormed.{ToControllerOk, ToConsoleOk, Number}
@@ -55,14 +54,14 @@ same_way_lem Out Back e = absurd (false≢true e)
 same_way_lem Back Out e = absurd (false≢true e)
 same_way_lem Back Back e = refl
 
-sent_head : (dir : Direction) (s : List ℕ) → Bytes s → (r : ReadHead) → (packet_read s).head ≡ r → goes dir r ≡ true → Sent dir s
-sent_head dir s b (Refused n) e g = absurd (false≢true g)
-sent_head dir s b (Is h) e g =
-    let a = accepted_is s e in
-    record { packet = record { head = h; message = (packet_read s).message }; read = a; way = same_way_lem (direction_of h) dir g; held = taken s b a }
+sent_head : (dir : Direction) (s : List ℕ) → Bytes s → (r : Result Head Refusal) → head_read s ≡ r → goes dir r ≡ true → Sent dir s
+sent_head dir s b (result.Err r) e g = absurd (false≢true g)
+sent_head dir s b (result.Ok h) e g =
+    let a : packet_read s ≡ accepted (record { head = h; message = drop 16 s }) = λ i. with_message (e i) (drop 16 s) in
+    record { packet = record { head = h; message = drop 16 s }; read = a; way = same_way_lem (direction_of h) dir g; held = taken s b a }
 
-sent : (dir : Direction) (s : List ℕ) → Bytes s → goes dir (packet_read s).head ≡ true → Sent dir s
-sent dir s b g = sent_head dir s b (packet_read s).head refl g
+sent : (dir : Direction) (s : List ℕ) → Bytes s → goes dir (head_read s) ≡ true → Sent dir s
+sent dir s b g = sent_head dir s b (head_read s) refl g
 
 -- ## To the controller
 
@@ -79,7 +78,7 @@ out_typed (need_i j) h = record { first = below j h; second = omega arith }
 out_typed (order i m) h = record { first = below i h.0; second = omega arith }
 out_typed (done i) h = record { first = below i h; second = omega arith }
 
-out_own : (p : ToController (List ℕ)) → as_to_controller (Is (to_controller_packet p).head) (to_controller_packet p).message ≡ p
+out_own : (p : ToController (List ℕ)) → as_to_controller (result.Ok (to_controller_packet p).head) (to_controller_packet p).message ≡ p
 out_own (need_i j) = refl
 out_own (order i m) = refl
 out_own (done i) = refl
@@ -92,11 +91,11 @@ out_way (done i) = refl
 out_again : (p : ToController (List ℕ)) → ToControllerReadOk p → to_controller_read (to_controller_bytes p) ≡ p
 unfolding to_controller_bytes to_controller_read
 out_again p h =
-    ap (λ (r : ReadPacket). as_to_controller r.head r.message) (read_back (to_controller_packet p) (out_typed p h) (out_fits p h)) ∙ out_own p
+    let w = was_read (packet_bytes (to_controller_packet p)) (read_back (to_controller_packet p) (out_typed p h) (out_fits p h)) in (λ i. as_to_controller (w.0 i) (w.1 i)) ∙ out_own p
 
 -- a packet that fits is the one that is read, and a good one
 abbrev OutBack : Head → Type 0
-OutBack h = (m : List ℕ) → fits (record { head = h; message = m }) ≡ true → Typed (record { head = h; message = m }) → (to_controller_packet (as_to_controller (Is h) m) ≡ record { head = h; message = m }) × ToControllerReadOk (as_to_controller (Is h) m)
+OutBack h = (m : List ℕ) → fits (record { head = h; message = m }) ≡ true → Typed (record { head = h; message = m }) → (to_controller_packet (as_to_controller (result.Ok h) m) ≡ record { head = h; message = m }) × ToControllerReadOk (as_to_controller (result.Ok h) m)
 
 out_need_i : (j : J) → OutBack (NeedI j)
 out_need_i j m f t =
@@ -109,12 +108,13 @@ out_done : (i : I) → OutBack (Done i)
 out_done i m f t =
     (λ n. record { head = Done i; message = sym (blank_is m (fits_message _ f)) n }, number i.0 (first_above (Done i) (fits_numbers _ f)) t.first)
 
-out_back : (s : List ℕ) → Bytes s → goes Out (packet_read s).head ≡ true → (to_controller_bytes (to_controller_read s) ≡ s) × ToControllerReadOk (to_controller_read s)
+out_back : (s : List ℕ) → Bytes s → goes Out (head_read s) ≡ true → (to_controller_bytes (to_controller_read s) ≡ s) × ToControllerReadOk (to_controller_read s)
 unfolding to_controller_bytes to_controller_read
 out_back s b g =
     let x = sent Out s b g in
     let p = x.packet in
-    let e : as_to_controller (packet_read s).head (packet_read s).message ≡ as_to_controller (Is p.head) p.message = ap (λ (r : ReadPacket). as_to_controller r.head r.message) x.read in
+    let w = was_read s x.read in
+    let e : as_to_controller (head_read s) (drop 16 s) ≡ as_to_controller (result.Ok p.head) p.message = λ i. as_to_controller (w.0 i) (w.1 i) in
     let q = to_controller_all OutBack out_need_i out_data out_done p.head x.way p.message x.held.fitting x.held.typed in
     (ap (λ (a : ToController (List ℕ)). packet_bytes (to_controller_packet a)) e ∙ ap packet_bytes q.0 ∙ x.held.same, subst ToControllerReadOk (sym e) q.1)
 
@@ -145,7 +145,7 @@ back_typed (offer j i) h = record { first = below j h.0; second = below i h.1 }
 back_typed (ok i) h = record { first = below i h; second = omega arith }
 back_typed (lost i) h = record { first = below i h; second = omega arith }
 
-back_own : (p : ToConsole) → as_to_console (Is (to_console_packet p).head) ≡ p
+back_own : (p : ToConsole) → as_to_console (result.Ok (to_console_packet p).head) ≡ p
 back_own (offer j i) = refl
 back_own (ok i) = refl
 back_own (lost i) = refl
@@ -158,10 +158,10 @@ back_way (lost i) = refl
 back_again : (p : ToConsole) → ToConsoleReadOk p → to_console_read (to_console_bytes p) ≡ p
 unfolding to_console_bytes to_console_read
 back_again p h =
-    ap (λ (r : ReadPacket). as_to_console r.head) (read_back (to_console_packet p) (back_typed p h) (back_fits p h)) ∙ back_own p
+    ap as_to_console (was_read (packet_bytes (to_console_packet p)) (read_back (to_console_packet p) (back_typed p h) (back_fits p h))).0 ∙ back_own p
 
 abbrev BackBack : Head → Type 0
-BackBack h = (m : List ℕ) → fits (record { head = h; message = m }) ≡ true → Typed (record { head = h; message = m }) → (to_console_packet (as_to_console (Is h)) ≡ record { head = h; message = m }) × ToConsoleReadOk (as_to_console (Is h))
+BackBack h = (m : List ℕ) → fits (record { head = h; message = m }) ≡ true → Typed (record { head = h; message = m }) → (to_console_packet (as_to_console (result.Ok h)) ≡ record { head = h; message = m }) × ToConsoleReadOk (as_to_console (result.Ok h))
 
 back_offer : (j : J) (i : I) → BackBack (Offer j i)
 back_offer j i m f t =
@@ -176,12 +176,12 @@ back_lost : (i : I) → BackBack (Lost i)
 back_lost i m f t =
     (λ n. record { head = Lost i; message = sym (blank_is m (fits_message _ f)) n }, number i.0 (first_above (Lost i) (fits_numbers _ f)) t.first)
 
-back_back : (s : List ℕ) → Bytes s → goes Back (packet_read s).head ≡ true → (to_console_bytes (to_console_read s) ≡ s) × ToConsoleReadOk (to_console_read s)
+back_back : (s : List ℕ) → Bytes s → goes Back (head_read s) ≡ true → (to_console_bytes (to_console_read s) ≡ s) × ToConsoleReadOk (to_console_read s)
 unfolding to_console_bytes to_console_read
 back_back s b g =
     let x = sent Back s b g in
     let p = x.packet in
-    let e : as_to_console (packet_read s).head ≡ as_to_console (Is p.head) = ap (λ (r : ReadPacket). as_to_console r.head) x.read in
+    let e : as_to_console (head_read s) ≡ as_to_console (result.Ok p.head) = ap as_to_console (was_read s x.read).0 in
     let q = to_console_all BackBack back_offer back_ok back_lost p.head x.way p.message x.held.fitting x.held.typed in
     (ap (λ (a : ToConsole). packet_bytes (to_console_packet a)) e ∙ ap packet_bytes q.0 ∙ x.held.same, subst ToConsoleReadOk (sym e) q.1)
 

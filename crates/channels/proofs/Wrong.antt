@@ -5,21 +5,23 @@ use mathlib.Core.Bool.{true, false, true≢false, false≢true}
 use mathlib.Core.List.{List, [], ◌∷◌, ◌++◌}
 use native.Mathlib.Omega.{arith}
 use lib.ListN.{length, get_or, take, replicate, drop_of_length-le}
-use Rattle.ground.specs.Choice.{when◌then◌else◌}
+use Rattle.std.specs.Prelude.{Result}
+use Rattle.std.specs.Prelude as result
+use Rattle.ground.specs.Refusals.{refusal_of}
+use Rattle.ground.specs.declared.refusals.Refusal.{Refusal}
+use Rattle.ground.proofs.RefusalNumbers.{is_other}
+use Rattle.ground.specs.Choice.{chosen}
 use Rattle.ground.specs.Every.{filled}
 use Rattle.ground.specs.First.{first}
 use Rattle.ground.proofs.Promise.{RulesOut, unequal}
 use Rattle.wire.specs.Number.{bytes_of, value}
-use Rattle.wire.specs.Packet.{fits, is_blank, packet_bytes, head_of, head_at, read_refusal, accepted, refused, packet_read}
+use Rattle.wire.specs.Packet.{fits, is_blank, packet_bytes, head_of, head_at as wire-head-at, read_refusal, accepted, refused, head_read}
 use Rattle.wire.specs.declared.Direction.{Direction}
 use Rattle.wire.specs.declared.Direction.TheVariants.{ToController, ToConsole}
 use Rattle.wire.specs.declared.Head.{Head}
 use Rattle.wire.specs.declared.Head.TheVariants.{NeedI, Ok}
 use Rattle.wire.specs.declared.Packet.{Packet}
-use Rattle.wire.specs.declared.ReadHead.TheVariants.{Is}
-use Rattle.wire.specs.declared.ReadPacket.{ReadPacket}
-use Rattle.wire.proofs.Heads.{is_other}
-use Rattle.channels.specs.Table.{laid, packet_at, goes, heads_pass, table_ok, with_copies, added}
+use Rattle.channels.specs.Table.{laid, packet_at, head_at, goes, heads_pass, table_ok, with_copies, added}
 use Rattle.channels.proofs.change.add.Kinds as add-kinds
 use Rattle.channels.proofs.change.add.Reads as add
 use Rattle.channels.proofs.check.head_at.Kinds as head-at-kinds
@@ -43,14 +45,14 @@ two = packet_bytes needs_1 ++ packet_bytes (blank (Ok (record { 0 = 1 })))
 -- ## Changing a table
 
 added_none : (t : List ℕ) (p : Packet) → length t ≡ 2048 → added t 64 1 p ≡ t
-unfolding added when◌then◌else◌
+unfolding added chosen
 added_none t p l = rw l
 
 pub adds_to_a_full_table : RulesOut add-kinds.ps add-kinds.r add.Post (λ κs a. (length a.0.now ≡ 2048) × (a.1.0 ≡ 64) × (a.1.1.0 ≡ 1)) (λ κs a x s. s.0.now ≡ a.0.now → ⊥)
 adds_to_a_full_table κs a x s e w p = w (p ∙ (λ i. added a.0.now (e.1 i) (e.2 i) a.1.1.1.0) ∙ added_none a.0.now a.1.1.1.0 e.0)
 
 second_copy : (get_or (added (replicate 2048 0) 0 2 needs_1) 32 0 ≡ 0x48) × (get_or (with_copies (replicate 2048 0) 0 1 needs_1) 32 0 ≡ 0)
-unfolding added laid packet_bytes bytes_of fits when◌then◌else◌ is_blank filled
+unfolding added laid packet_bytes bytes_of fits chosen is_blank filled
 second_copy = (refl, refl)
 
 -- two copies for an empty table
@@ -61,31 +63,39 @@ copies_on_one_place κs a x s e w p =
 
 -- ## Reading a table
 
+abbrev its_head : Result Packet Refusal → Result Head Refusal
+its_head (result.Ok p) = result.Ok p.head
+its_head (result.Err r) = result.Err r
+
 pub reads_the_place_before : RulesOut packet-at-kinds.ps packet-at-kinds.r packet-at.Post (λ κs a. (a.0.now ≡ two) × (a.1.0 ≡ 1)) (λ κs a x s. x ≡ packet_at a.0.now (a.1.0 - 1))
-unfolding packet_at packet_read read_refusal head_at head_of packet_bytes bytes_of value first when◌then◌else◌ is_blank filled
+unfolding packet_at head_read read_refusal wire-head-at head_of packet_bytes bytes_of value first chosen is_blank filled
 reads_the_place_before κs a x s e w p =
     let q = sym (λ i. packet_at (e.0 i) (e.1 i - 1)) ∙ sym w ∙ p ∙ (λ i. packet_at (e.0 i) (e.1 i)) in
-    false≢true (ap (λ (r : ReadPacket). goes ToConsole r.head) q)
+    false≢true (ap (λ (r : Result Packet Refusal). goes ToConsole (its_head r)) q)
 
 packet_at_end : (t : List ℕ) → length t ≡ 2048 → packet_at t 64 ≡ refused 12
-unfolding packet_at packet_read read_refusal first when◌then◌else◌
+unfolding packet_at head_read read_refusal first chosen
 packet_at_end t l = rw (drop_of_length-le t {i = 2048} (omega (arith, l)))
 
-pub a_packet_beyond_the_table : RulesOut packet-at-kinds.ps packet-at-kinds.r packet-at.Post (λ κs a. (length a.0.now ≡ 2048) × (a.1.0 ≡ 64)) (λ κs a x s. (q : Packet) × (x ≡ accepted q))
-a_packet_beyond_the_table κs a x s e w p = is_other 12 w.0.head (sym (ap (λ (r : ReadPacket). r.head) (sym w.1 ∙ p ∙ ap (packet_at a.0.now) e.1 ∙ packet_at_end a.0.now e.0)))
+head_at_end : (t : List ℕ) → length t ≡ 2048 → head_at t 64 ≡ result.Err (refusal_of 12)
+unfolding head_at head_read read_refusal first chosen
+head_at_end t l = rw (drop_of_length-le t {i = 2048} (omega (arith, l)))
 
-pub head_of_the_place_before : RulesOut head-at-kinds.ps head-at-kinds.r head-at.Post (λ κs a. (a.0.now ≡ two) × (a.1.0 ≡ 1)) (λ κs a x s. x ≡ (packet_at a.0.now (a.1.0 - 1)).head)
-unfolding packet_at packet_read read_refusal head_at head_of packet_bytes bytes_of value first when◌then◌else◌ is_blank filled
+pub a_packet_beyond_the_table : RulesOut packet-at-kinds.ps packet-at-kinds.r packet-at.Post (λ κs a. (length a.0.now ≡ 2048) × (a.1.0 ≡ 64)) (λ κs a x s. (q : Packet) × (x ≡ accepted q))
+a_packet_beyond_the_table κs a x s e w p = is_other (refusal_of 12) w.0 (sym (sym w.1 ∙ p ∙ ap (packet_at a.0.now) e.1 ∙ packet_at_end a.0.now e.0))
+
+pub head_of_the_place_before : RulesOut head-at-kinds.ps head-at-kinds.r head-at.Post (λ κs a. (a.0.now ≡ two) × (a.1.0 ≡ 1)) (λ κs a x s. x ≡ head_at a.0.now (a.1.0 - 1))
+unfolding head_at head_read read_refusal wire-head-at head_of packet_bytes bytes_of value first chosen is_blank filled
 head_of_the_place_before κs a x s e w p =
-    let q = sym (λ i. (packet_at (e.0 i) (e.1 i - 1)).head) ∙ sym w ∙ p ∙ (λ i. (packet_at (e.0 i) (e.1 i)).head) in
+    let q = sym (λ i. head_at (e.0 i) (e.1 i - 1)) ∙ sym w ∙ p ∙ (λ i. head_at (e.0 i) (e.1 i)) in
     false≢true (ap (goes ToConsole) q)
 
-pub a_head_beyond_the_table : RulesOut head-at-kinds.ps head-at-kinds.r head-at.Post (λ κs a. (length a.0.now ≡ 2048) × (a.1.0 ≡ 64)) (λ κs a x s. (h : Head) × (x ≡ Is h))
+pub a_head_beyond_the_table : RulesOut head-at-kinds.ps head-at-kinds.r head-at.Post (λ κs a. (length a.0.now ≡ 2048) × (a.1.0 ≡ 64)) (λ κs a x s. (h : Head) × (x ≡ result.Ok h))
 a_head_beyond_the_table κs a x s e w p =
-    is_other 12 w.0 (sym (sym w.1 ∙ p ∙ ap (λ (r : ReadPacket). r.head) (ap (packet_at a.0.now) e.1 ∙ packet_at_end a.0.now e.0)))
+    is_other (refusal_of 12) w.0 (sym (sym w.1 ∙ p ∙ ap (head_at a.0.now) e.1 ∙ head_at_end a.0.now e.0))
 
 other_way : (t : List ℕ) → length t ≡ 2048 → take 32 t ≡ packet_bytes (blank (Ok (record { 0 = 1 }))) → table_ok ToController 1 t ≡ false
-unfolding table_ok heads_pass packet_read read_refusal head_at head_of packet_bytes bytes_of value first when◌then◌else◌ is_blank filled
+unfolding table_ok heads_pass head_read read_refusal wire-head-at head_of packet_bytes bytes_of value first chosen is_blank filled
 other_way t l h = rw (l, h)
 
 -- a table whose first packet is an OK, on its way to the controller

@@ -6,6 +6,7 @@ use wire::Packet;
 
 // The bench refuses by 9 before. Without room for all copies nothing changes; of a packet that doesn't fit, the writer leaves each place
 // as it was.
+#[tactic(auto, using(crate::proofs::Adding::adds))]
 pub fn add(table: &mut [u8], count: usize, copies: usize, p: Packet)
     ensures { table.new ≡ added table.old count copies p }
 {
@@ -18,10 +19,8 @@ pub fn add(table: &mut [u8], count: usize, copies: usize, p: Packet)
     if 64 - count < copies {
         return;
     }
-    let mut i = 0;
-    while i < copies {
-        let at = (count + i) * 32;
-        wire::write_packet(&mut table[at..at + 32], p);
-        i += 1;
+    for copy in 0..copies {
+        let at = (count + copy) * 32;
+        let _ = wire::write_packet(&mut table[at..at + 32], p);
     }
 }

@@ -8,9 +8,12 @@ use mathlib.Core.Option
 use mathlib.Core.Option.{Option, none, some, none-ne-some}
 use mathlib.Core.List.{List, [], ◌∷◌, ◌++◌, map, append-nil}
 use lib.Dec.{eqb}
+use lib.ListN.{drop}
+use Rattle.ground.specs.declared.refusals.Refusal.{Refusal}
 use Rattle.ground.specs.Cell.{is_message}
 use Rattle.ground.specs.First.{refusal}
-use Rattle.wire.specs.Packet.{packet_bytes, packet_read}
+use Rattle.wire.specs.Packet.{packet_bytes, head_read, with_message}
+use Rattle.wire.specs.declared.Head.{Head}
 use Rattle.wire.specs.declared.Packet.{Packet}
 use Rattle.rules.specs.Supply.{Supply, Lawful, numbering}
 use Rattle.rules.specs.Letters as letters
@@ -37,16 +40,15 @@ use Rattle.rules.proofs.ReadRadio.{radio_right_read}
 use Rattle.rules.proofs.RadioWellFormed.{LinkOk, happens_ok, start_ok}
 use Rattle.rules.proofs.BenchOnRadio.{place_of}
 use Rattle.ends.specs.AsRules.{report_back, for_console, for_controller, to_console, to_controller}
-use Rattle.ends.specs.Packets.{to_controller_packet, to_console_packet, read_for_console, read_for_controller}
+use Rattle.ends.specs.Packets.{to_controller_packet, to_console_packet, head_for_controller, read_for_console}
 use Rattle.ends.specs.declared.Report.{Report}
 use Rattle.ends.specs.declared.Report.TheVariants as report
-use Rattle.ends.specs.declared.ForConsole.{ForConsole}
-use Rattle.ends.specs.declared.ForConsole.TheVariants as for-console
-use Rattle.ends.specs.declared.ForController.{ForController}
-use Rattle.ends.specs.declared.ForController.TheVariants as for-controller
+use Rattle.std.specs.Prelude as prelude
+use Rattle.ends.specs.declared.ToConsole.{ToConsole}
+use Rattle.ends.specs.declared.ToController.{ToController}
 use Rattle.alone.specs.Alone.{replied}
-use Rattle.alone.proofs.Calls.{console_heard, controller_heard_as}
-use Rattle.channels.specs.Packets.{to_controller_bytes, controller_came, to_controller_read, to_console_bytes, console_came, to_console_read}
+use Rattle.alone.proofs.Calls.{console_heard, packet_heard, controller_heard_as}
+use Rattle.channels.specs.Packets.{to_controller_bytes, controller_came, as_to_controller, to_controller_read, to_console_bytes, console_came, to_console_read}
 use Rattle.channels.proofs.Packets.{ToControllerReadOk, ToConsoleReadOk, to_controller_coded, to_console_coded}
 use Rattle.demand3.specs.AnyBoxes.{Call, Kind, Box, Boxes, Reach, through, kept_and_cut, cut, Event, at_console, at_controller, leaves, goes, after, called, shows, all_shown_of, Honest, AllHonest, AnyRight}
 use Rattle.demand3.proofs.Lists.{in_map, all_in, map_written}
@@ -149,8 +151,8 @@ module _ {S : Type 0} (U : Supply S) where
 module _ {S : Type 0} {U : Supply S} (s : Side U) (A : Kind) (Stands : A.End → s.E → Type 0) (Holds : A.Kept → S → Type 0) (b : Bench S Row) (e : s.E) (kept : A.Kept) (c : Call) (t : A.Told) where
   -- a call that is refused before the rules changes nothing
   pub record BeforeRules : Type 0 where
-    pub number : ℕ
-    pub says : A.report t ≡ report.Refused number
+    pub refusal : Refusal
+    pub says : A.report t ≡ report.Refused refusal
     pub sends : A.sends t ≡ false
     pub stands : Stands (A.left t) e
     pub keeps : A.keeps t kept ≡ kept
@@ -271,13 +273,17 @@ module _ {S : Type 0} {U : Supply S} (suits : Suits U) {s : Side U} {A : Kind} {
 
 -- ## A packet that came was sent: it stands among all that was
 
-console_came_lem : (f : ForConsole) (q : rules.ToConsole) → for_console f ≡ some q → console_came f ≡ q
-console_came_lem for-console.Nothing q e = absurd (none-ne-some q e)
-console_came_lem (for-console.Packet t) q e = let same : to_console t ≡ q = cc in same
+console_came_lem : (f : prelude.Option ToConsole) (q : rules.ToConsole) → for_console f ≡ some q → console_came f ≡ q
+console_came_lem prelude.None q e = absurd (none-ne-some q e)
+console_came_lem (prelude.Some t) q e = let same : to_console t ≡ q = cc in same
 
-controller_came_lem : (f : ForController) (m : Row) (q : rules.ToController Row) → Option.map (in_packet (λ _. m)) (for_controller f) ≡ some q → controller_came f m ≡ q
-controller_came_lem for-controller.Nothing m q e = absurd (none-ne-some q e)
-controller_came_lem (for-controller.Packet t) m q e = let same : in_packet (λ _. m) (to_controller t) ≡ q = cc in same
+controller_came_lem : (f : prelude.Option ToController) (m : Row) (q : rules.ToController Row) → Option.map (in_packet (λ _. m)) (for_controller f) ≡ some q → controller_came f m ≡ q
+controller_came_lem prelude.None m q e = absurd (none-ne-some q e)
+controller_came_lem (prelude.Some t) m q e = let same : in_packet (λ _. m) (to_controller t) ≡ q = cc in same
+
+controller_read_lem : (h : prelude.Result Head Refusal) (m : Row) (q : rules.ToController Row) → packet_heard (with_message h m) ≡ some q → as_to_controller h m ≡ q
+controller_read_lem (prelude.Err r) m q e = absurd (none-ne-some q e)
+controller_read_lem (prelude.Ok h) m q e = controller_came_lem (head_for_controller h) m q e
 
 module _ {S : Type 0} {U : Supply S} (suits : Suits U) where
   to_console_fits : (q : rules.ToConsole) → ToConsoleOk U q → ToConsoleReadOk q
@@ -296,7 +302,7 @@ module _ {S : Type 0} {U : Supply S} (suits : Suits U) where
     console_finds sent q e =
         let i = in_map to_console_bytes p k.bench.to_console sent in
         let good = to_console_fits i.0 (all_in _ i.0 k.bench.to_console ok.downs i.1.0) in
-        let same : q ≡ i.0 = sym (console_came_lem (read_for_console (packet_read p).head) q e) ∙ ap to_console_read i.1.1 ∙ to_console_coded.again i.0 good in
+        let same : q ≡ i.0 = sym (console_came_lem (read_for_console (head_read p)) q e) ∙ ap to_console_read i.1.1 ∙ to_console_coded.again i.0 good in
         let x = place_of i.0 k.bench.to_console i.1.0 in
         (x.0, x.1 ∙ ap some (sym same))
 
@@ -305,7 +311,7 @@ module _ {S : Type 0} {U : Supply S} (suits : Suits U) where
     controller_finds sent q e =
         let i = in_map to_controller_bytes p k.bench.to_controller sent in
         let good = to_controller_fits i.0 (all_in _ i.0 k.bench.to_controller ok.ups i.1.0) in
-        let same : q ≡ i.0 = sym (controller_came_lem (read_for_controller (packet_read p).head) (packet_read p).message q e) ∙ ap to_controller_read i.1.1 ∙ to_controller_coded.again i.0 good in
+        let same : q ≡ i.0 = sym (controller_read_lem (head_read p) (drop 16 p) q e) ∙ ap to_controller_read i.1.1 ∙ to_controller_coded.again i.0 good in
         let x = place_of i.0 k.bench.to_controller i.1.0 in
         (x.0, x.1 ∙ ap some (sym same))
 

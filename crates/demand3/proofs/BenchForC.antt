@@ -1,5 +1,5 @@
 -- Demand 3 of the bench for C, from that of the bench's step: through its bytes the state is, call after call, the fields that the bench comes to.
-use Prim.Native.Nat.{ℕ, ◌<◌, ◌≤◌, ◌^◌}
+use Prim.Native.Nat.{ℕ, ◌<◌, ◌^◌}
 use mathlib.Core.Path.{◌≡◌, refl, sym, ap, ap₂, ◌∙◌}
 use mathlib.Core.Bool.{true, false, false≢true}
 use mathlib.Core.Option.{Option}
@@ -7,8 +7,11 @@ use mathlib.Core.List.{List, [], ◌∷◌}
 use native.Mathlib.Omega.{arith}
 use borrow.Author.Tests.{eq-eqb, ne_eqb}
 use lib.ListN.{length}
+use Rattle.ground.proofs.RefusalNumbers.{refusal_of-number_of, number_in_table}
+use Rattle.ground.specs.Refusals.{number_of}
+use Rattle.ground.specs.declared.refusals.Refusal.{Refusal}
 use Rattle.ground.specs.Cell.{is_message}
-use Rattle.ground.specs.Choice.{when◌then◌else◌}
+use Rattle.ground.specs.Choice.{chosen}
 use Rattle.ground.proofs.Tests.{by_test}
 use Rattle.wire.specs.declared.I.{I}
 use Rattle.wire.specs.declared.J.{J}
@@ -21,7 +24,6 @@ use Rattle.rules.specs.WellFormed.{WellFormed}
 use Rattle.rules.proofs.ReadPlain.{right_read_plain}
 use Rattle.rules.proofs.WellFormed.{fresh_well_formed}
 use Rattle.numbers.proofs.Range.{fresh_sound}
-use Rattle.ends.specs.AsRules.{number_in}
 use Rattle.ends.specs.declared.Report.{Report}
 use Rattle.ends.specs.declared.Report.TheVariants as report
 use Rattle.bench.specs.AsRules.{bench_back}
@@ -57,15 +59,16 @@ module _ (b : Here) (w : WellFormed numbering is_message b.history) where
 -- ## One call
 
 -- the byte told says the report
-told_says : (r : Report) → ((n : ℕ) → r ≡ report.Refused n → (1 ≤ n) × (n ≤ 15)) → byte_says (told r false false) ≡ r
-unfolding byte_says marks when◌then◌else◌
-told_says report.Nothing low = refl
-told_says report.Delivered low = refl
-told_says report.Ok low = refl
-told_says report.Lost low = refl
-told_says (report.Refused n) low =
-    let h = low n refl in
-    rw (ne_eqb n 0 (λ e. omega (arith, e, h.0)), ne_eqb n 64 (λ e. omega (arith, e, h.1)), ne_eqb n 65 (λ e. omega (arith, e, h.1)), ne_eqb n 66 (λ e. omega (arith, e, h.1)))
+told_says : (r : Report) → byte_says (told r false false) ≡ r
+unfolding byte_says marks chosen
+told_says report.Nothing = refl
+told_says report.Delivered = refl
+told_says report.Ok = refl
+told_says report.Lost = refl
+told_says (report.Refused q) =
+    let n = number_of q in
+    let h = number_in_table q in
+    rw (ne_eqb n 0 (λ e. omega (arith, e, h.0)), ne_eqb n 64 (λ e. omega (arith, e, h.1)), ne_eqb n 65 (λ e. omega (arith, e, h.1)), ne_eqb n 66 (λ e. omega (arith, e, h.1))) (ap report.Refused (refusal_of-number_of q))
 
 -- the lent bytes show the delivery
 delivered_shows : (a : Action) (r : Report) (m d : List ℕ) → shown_by a r (delivered_to r m d) ≡ shown_by a r m
@@ -75,12 +78,12 @@ delivered_shows a report.Ok m d = refl
 delivered_shows a report.Lost m d = refl
 delivered_shows a (report.Refused n) m d = refl
 
-is_refused : (r : Report) → is_refusal r ≡ true → r ≡ report.Refused (number_in r)
+is_refused : (r : Report) → is_refusal r ≡ true → (q : Refusal) × (r ≡ report.Refused q)
 is_refused report.Nothing e = absurd (false≢true e)
 is_refused report.Delivered e = absurd (false≢true e)
 is_refused report.Ok e = absurd (false≢true e)
 is_refused report.Lost e = absurd (false≢true e)
-is_refused (report.Refused n) e = refl
+is_refused (report.Refused q) e = (q, refl)
 
 module _ (b : Here) (w : WellFormed numbering is_message b.history) (a : Action) where
   abbrev result : Result
@@ -94,11 +97,11 @@ module _ (b : Here) (w : WellFormed numbering is_message b.history) (a : Action)
 
   -- the state that it leaves
   state_left : (v : Leaves b result) (d : List ℕ) → (step_put (kept b) a (out b) (back b) d).state ≡ kept v.after
-  unfolding when◌then◌else◌
+  unfolding chosen
   state_left v d =
       let r = through.outcome.report in
       by_test (is_refusal r)
-      (λ t. rw t (ap kept (sym (v.kept (number_in r) (sym (ap (λ (x : Result). x.outcome.report) same) ∙ is_refused r t)))))
+      (λ t. let q = is_refused r t in rw t (ap kept (sym (v.kept q.0 (sym (ap (λ (x : Result). x.outcome.report) same) ∙ q.1)))))
       (λ f. bench_step_leaves (kept b) a (out b) (back b) d f ∙ ap (λ (x : Result). bench_bytes x.outcome.bench) same ∙ ap bench_bytes v.bench_is)
 
   -- the row that it shows
@@ -107,7 +110,7 @@ module _ (b : Here) (w : WellFormed numbering is_message b.history) (a : Action)
   row_shown v d =
       let r = result.outcome.report in
       ap (λ (x : Result). shown_by a (byte_says (told x.outcome.report false false)) (delivered_to x.outcome.report x.outcome.message d)) same
-      ∙ ap (λ (y : Report). shown_by a y (delivered_to r result.outcome.message d)) (told_says r v.numbered)
+      ∙ ap (λ (y : Report). shown_by a y (delivered_to r result.outcome.message d)) (told_says r)
       ∙ delivered_shows a r result.outcome.message d
 
 -- ## All calls
@@ -135,11 +138,11 @@ module _ (j : J) (i : I) (s out₀ back₀ : List ℕ) (p : j.0 < 2 ^ 32) (q : i
   b = fresh_rules j i
 
   fresh_put_lem : fresh_put j i s out₀ back₀ ≡ record { told = 0; state = kept b; out = out b; back = back b }
-  unfolding fresh_put bench_fresh bench_told state.written marks when◌then◌else◌
+  unfolding fresh_put bench_fresh bench_told state.written marks chosen
   fresh_put_lem = rw (eq-eqb (length s) 62 k, eq-eqb (length out₀) 2048 m, eq-eqb (length back₀) 2048 n)
 
   fresh_told : fresh_outcomes j i out₀ back₀ (actions_of l) ≡ outcomes (bench_back b) (out b) (back b) (actions_of l)
-  unfolding fresh_outcomes bench_fresh bench_told when◌then◌else◌
+  unfolding fresh_outcomes bench_fresh bench_told chosen
   fresh_told = rw (eq-eqb (length out₀) 2048 m, eq-eqb (length back₀) 2048 n)
 
   fresh_ok : WellFormed numbering is_message b.history

@@ -4,8 +4,13 @@ use mathlib.Core.Logic.{inl, inr}
 use mathlib.Core.Bool.{Bool, true, not}
 use mathlib.Core.Option.{Option, none, some, map, none-ne-some}
 use mathlib.Core.List.{List}
+use lib.ListN.{drop}
+use Rattle.ground.specs.declared.refusals.Refusal.{Refusal}
+use Rattle.std.specs.Prelude as prelude
+use Rattle.ground.specs.Refusals.{refusal_of}
 use Rattle.ground.specs.Cell.{is_message}
-use Rattle.wire.specs.Packet.{packet_read}
+use Rattle.wire.specs.Packet.{head_read, with_message}
+use Rattle.wire.specs.declared.Head.{Head}
 use Rattle.rules.specs.Supply.{numbering, Numbers}
 use Rattle.rules.specs.Ends as rules
 use Rattle.rules.specs.Bench as bench
@@ -29,10 +34,10 @@ use Rattle.ends_controller.specs.FieldsAsRules.{controller_back}
 use Rattle.ends_controller.specs.declared.fields.Controller.{Controller}
 use Rattle.ends_controller.proofs.WellFormed.{controller_stands}
 use Rattle.ends.specs.AsRules.{Beside, delivered, for_controller}
-use Rattle.ends.specs.Packets.{read_for_controller}
+use Rattle.ends.specs.Packets.{head_for_controller, read_for_controller}
 use Rattle.alone.specs.ConsoleAlone.{ConsoleAlone, console_told}
 use Rattle.alone.specs.ControllerAlone.{ControllerAlone, controller_told}
-use Rattle.alone.proofs.Calls.{ConsoleCall, console_call, ControllerCall, controller_call}
+use Rattle.alone.proofs.Calls.{packet_heard, ConsoleCall, console_call, ControllerCall, controller_call}
 use Rattle.demand3.specs.AnyBoxes.{Call, Event, AllHonest}
 use Rattle.demand3.specs.Boxes.{console_kind, controller_kind, Stored, start, BoxesRight}
 use Rattle.demand3.proofs.AnyBoxes.{Row, console_side, controller_side, ShownCells, ComesTo, Finds, Runs, Suits, BoxesStand, any_right}
@@ -71,7 +76,7 @@ module _ (b : Bench Numbers Row) (ack : Bool) (kept : code.Numbers) (c : Call) w
     where
       by : (d : ConsoleAlone) → ConsoleCall b (console_back e) (console_stands b.console ack fine).0 c.message c.packet c.reply c.letter d → ConsoleComesTo d
       by d (inl (n, f)) =
-          subst ConsoleComesTo (sym f) (inl (record { number = n; says = refl; sends = refl; stands = refl; keeps = console_kept_so e ∙ sym holds }))
+          subst ConsoleComesTo (sym f) (inl (record { refusal = refusal_of n; says = refl; sends = refl; stands = refl; keeps = console_kept_so e ∙ sym holds }))
       by d (inr (l, (named, (x, (act, (q, f)))))) =
           subst ConsoleComesTo (sym (f ∙ ap (λ (z : Reading (rules.Console Numbers Row)). console_told (console_read_step numbering is_message z act) c.reply) (console_stands b.console ack fine).1))
           (inr (record { by = l; named = named; place = x; act = act; asked = q; says = refl; cells = tt; sends = refl; reply = refl; stands = refl; holds = console_kept_so ((console_side numbering).after e act) }))
@@ -115,6 +120,10 @@ unfolding rules.absent
 is_packet none m q e = absurd (none-ne-some q e)
 is_packet (some p) m q e = refl
 
+is_read : (h : prelude.Result Head Refusal) (m : Row) (q : rules.ToController Row) → packet_heard (with_message h m) ≡ some q → not (rules.absent (for_controller (read_for_controller h))) ≡ true
+is_read (prelude.Err r) m q h = absurd (none-ne-some q h)
+is_read (prelude.Ok x) m q h = is_packet (for_controller (head_for_controller x)) m q h
+
 module _ (b : Bench Numbers Row) (kept : code.Numbers) (c : Call) where
   abbrev f : rules.Controller Numbers
   f = b.controller
@@ -124,11 +133,11 @@ module _ (b : Bench Numbers Row) (kept : code.Numbers) (c : Call) where
 
   pub controller_comes_to : ControllerOk numbering f → Holds kept f.numbers → Finds (controller_side numbering) b controller_kind.is_for c → ControllerComesTo (controller_kind.step (controller_back f) c)
   controller_comes_to fine holds finds =
-      by _ (controller_call b (controller_back f) (controller_stands f fine).0 c.message c.packet c.reply c.letter (λ l q h. finds l (is_packet (for_controller (read_for_controller (packet_read c.packet).head)) (packet_read c.packet).message q h) q h))
+      by _ (controller_call b (controller_back f) (controller_stands f fine).0 c.message c.packet c.reply c.letter (λ l q h. finds l (is_read (head_read c.packet) (drop 16 c.packet) q h) q h))
     where
       by : (d : ControllerAlone) → ControllerCall b (controller_back f) (controller_stands f fine).0 c.message c.packet c.reply c.letter d → ControllerComesTo d
       by d (inl (n, g)) =
-          subst ControllerComesTo (sym g) (inl (record { number = n; says = refl; sends = refl; stands = refl; keeps = controller_kept_so f ∙ sym holds }))
+          subst ControllerComesTo (sym g) (inl (record { refusal = refusal_of n; says = refl; sends = refl; stands = refl; keeps = controller_kept_so f ∙ sym holds }))
       by d (inr (l, (named, (x, (act, (q, g)))))) =
           subst ControllerComesTo (sym (g ∙ ap (λ (z : rules.Controller Numbers). controller_told (rules.controller_step numbering z act) c.reply) (controller_stands f fine).1))
           (inr (record { by = l; named = named; place = x; act = act; asked = q; says = refl; cells = told_cells ((controller_side numbering).report f act); sends = refl; reply = refl; stands = refl; holds = controller_kept_so ((controller_side numbering).after f act) }))

@@ -9,8 +9,13 @@ use native.Mathlib.Omega.{arith}
 use lib.ListN.{length}
 use lib.Dec.{eqb, leb}
 use borrow.Author.Tests.{eqb-true, eq-eqb, ne_eqb, leb-true, not-false}
+use Rattle.ground.proofs.RefusalNumbers.{refusal_of-number_of}
+use Rattle.ground.specs.Refusals.{refusal_of}
+use Rattle.ground.specs.Refusals as of_refusals
+use Rattle.ground.specs.declared.refusals.Refusal as refusals
+use Rattle.std.specs.Prelude as result
 use Rattle.ground.specs.Cell.{is_message}
-use Rattle.ground.specs.Choice.{when◌then◌else◌}
+use Rattle.ground.specs.Choice.{chosen, when◌then◌else◌}
 use Rattle.ground.specs.First.{first}
 use Rattle.ground.proofs.Tests.{and_left, and_right}
 use Rattle.wire.specs.Number.{bytes_of}
@@ -48,15 +53,14 @@ use Rattle.alone.specs.ConsoleAlone.{ConsoleAlone}
 use Rattle.alone.specs.ControllerAlone.{ControllerAlone}
 use Rattle.alone.proofs.Refusals.{console_refusal_leaves, controller_refusal_leaves}
 use Rattle.boundary.specs.State as state
-use Rattle.boundary.specs.State.{is_refusal, changed, marks, told, state_record_put, start_refusal, started, start_in, start_of}
+use Rattle.boundary.specs.State.{is_refusal, changed, marks, told, state_record_put, start_refusal, started, start_in, start_of, start_bytes}
 use Rattle.boundary.specs.Console.{console_at, console_bytes}
 use Rattle.boundary.specs.Controller.{controller_at, controller_bytes, delivered_to}
 use Rattle.boundary.proofs.ConsoleWellFormed as console-left
-use Rattle.boundary.proofs.ConsoleWellFormed.{console_refusal_number}
 use Rattle.boundary.proofs.ControllerWellFormed as controller-left
-use Rattle.boundary.proofs.ControllerWellFormed.{controller_refusal_number}
 use Rattle.boundary.proofs.ConsoleTrips as console-trips
 use Rattle.boundary.proofs.ControllerTrips as controller-trips
+use Rattle.boundary.proofs.RefusalNumbers.{refusal_number}
 use Rattle.boundary.proofs.ToldByte.{Refusal, keeps_told, sends_told}
 use Rattle.demand3.specs.BenchForC.{byte_says}
 use Rattle.demand3.specs.AnyBoxes.{Call, Kind, Event, AllHonest}
@@ -80,12 +84,12 @@ module _ (n : ℕ) (h : Refusal n) where
   bare : n % 32 + 64 * (n / 64 % 2) ≡ n
   bare = rw (div-eq_of_lt {n = n} {m = 64} (omega (arith, h.1)), mod-eq_of_lt h.1) (add-zero n)
 
-  byte_refuses : byte_says n ≡ report.Refused n
-  unfolding byte_says when◌then◌else◌
+  byte_refuses : byte_says n ≡ report.Refused (refusal_of n)
+  unfolding byte_says chosen
   byte_refuses =
       rw (ne_eqb n 0 above, ne_eqb n 64 (λ e. omega (arith, e, h.1)), ne_eqb n 65 (λ e. omega (arith, e, h.1)), ne_eqb n 66 (λ e. omega (arith, e, h.1)))
 
-  refusal_says : report_told n ≡ report.Refused n
+  refusal_says : report_told n ≡ report.Refused (refusal_of n)
   unfolding report_told
   refusal_says = ap byte_says bare ∙ byte_refuses
 
@@ -97,7 +101,7 @@ by_marks P a b c d false true = c
 by_marks P a b c d false false = d
 
 says_told : (r : Report) (sent keep : Bool) → is_refusal r ≡ false → report_told (told r sent keep) ≡ r
-unfolding report_told byte_says marks when◌then◌else◌
+unfolding report_told byte_says marks chosen
 says_told report.Nothing sent keep e = by_marks (λ s k. report_told (told report.Nothing s k) ≡ report.Nothing) refl refl refl refl sent keep
 says_told report.Delivered sent keep e = by_marks (λ s k. report_told (told report.Delivered s k) ≡ report.Delivered) refl refl refl refl sent keep
 says_told report.Ok sent keep e = by_marks (λ s k. report_told (told report.Ok s k) ≡ report.Ok) refl refl refl refl sent keep
@@ -108,7 +112,7 @@ says_told (report.Refused n) sent keep e = absurd (true≢false e)
 
 -- what is kept holds these numbers: a start takes them from it
 abbrev Holds : ℕ → List ℕ → Numbers → Type 0
-Holds end kept n = start_in end (record_read kept) ≡ record { refusal = 0; number = n.reserved; block = n.block }
+Holds end kept n = start_in end (record_read kept) ≡ result.Ok (numbers_kept n.reserved n.block)
 
 -- a start from a record of version 1 is a fresh start with its number
 pub old_is_fresh : (n : ℕ) → (numbers_of (number-record.ConsoleOld (record { 0 = n })) ≡ numbers_fresh n) × (numbers_of (number-record.ControllerOld (record { 0 = n })) ≡ numbers_fresh n)
@@ -116,7 +120,7 @@ old_is_fresh n = (refl, refl)
 
 -- a record of either version holds its numbers
 record_holds : (end : ℕ) (r : NumberRecord) → end_of r ≡ end → number_of r < 2 ^ 32 → is_good r ≡ true → Holds end (record_bytes r) (numbers_of r)
-unfolding start_of when◌then◌else◌
+unfolding start_of chosen
 record_holds end r e h g = ap (start_in end) (record_read_back r h g) ∙ rw (eq-eqb (end_of (renewed r)) end (renewed_end r ∙ e))
 
 -- ## One law for both ends
@@ -147,7 +151,7 @@ pub record InBytes {s : Side numbering} {F : Kind} (R : Runs s F) : Type 1 where
   pub back_numbers : (e : s.E) → numbers (back e) ≡ numbers_back (s.numbers e)
   pub downed : Numbers → F.End
   pub back_downed : (n : supply.Numbers) → downed (numbers_back n) ≡ back (s.downed n)
-  pub refuses : (x : F.End) (c : Call) → Typed x → (n : ℕ) → F.report (F.step x c) ≡ report.Refused n → Refusal n × ((F.sends (F.step x c) ≡ false) × (F.left (F.step x c) ≡ x))
+  pub refuses : (x : F.End) (c : Call) → Typed x → (q : refusals.Refusal) → F.report (F.step x c) ≡ report.Refused q → (F.sends (F.step x c) ≡ false) × (F.left (F.step x c) ≡ x)
   pub delivered : F.Told → Call → List ℕ
   pub delivers : (r : rules.Report Row) (d : F.Told) (c : Call) → F.report d ≡ report_back r → s.Cells r (F.cells d) → s.Cells r (delivered d c)
 
@@ -158,7 +162,7 @@ module _ {s : Side numbering} {F : Kind} {R : Runs s F} (I : InBytes R) where
 
     -- the entry writes it
     record_put_lem : state_record_put true (I.record_of n) buffer ≡ record_bytes (I.record_of n)
-    unfolding state_record_put record_written record_write_refusal first when◌then◌else◌
+    unfolding state_record_put record_written record_write_refusal first chosen
     record_put_lem = rw (good, I.new n)
 
     own_holds : Holds I.end (record_bytes (I.record_of n)) n
@@ -168,7 +172,7 @@ module _ {s : Side numbering} {F : Kind} {R : Runs s F} (I : InBytes R) where
 
     -- a record is kept where it has changed: what is kept then holds the numbers after the step
     kept_holds : (before : Numbers) (kept : List ℕ) (keep : Bool) → keep ≡ changed before n → Holds I.end kept before → Holds I.end (when keep then state_record_put true (I.record_of n) buffer else kept) n
-    unfolding when◌then◌else◌
+    unfolding chosen
     kept_holds before kept true e h = rw record_put_lem own_holds
     kept_holds before kept false e h =
         let r = eqb before.reserved n.reserved in
@@ -176,7 +180,7 @@ module _ {s : Side numbering} {F : Kind} {R : Runs s F} (I : InBytes R) where
         let g = not-false (r && b) (sym e) in
         let x = eqb-true before.reserved n.reserved (and_left r b g) in
         let y = eqb-true before.block n.block (and_right r b g) in
-        h ∙ (λ i. record { refusal = 0; number = x i; block = y i })
+        h ∙ (λ i. result.Ok (numbers_kept (x i) (y i)))
 
   -- what an entry tells, leaves and keeps of a call of the end x that reports r, sends or not, and leaves y
   module _ (x : F.End) (typed : I.Typed x) where
@@ -194,15 +198,17 @@ module _ {s : Side numbering} {F : Kind} {R : Runs s F} (I : InBytes R) where
       pub sends : sent_told (byte r sent y) ≡ sent
       pub leaves : left r y ≡ I.bytes y
       pub holds : (kept : List ℕ) → Holds I.end kept (I.numbers x) → Holds I.end (keeps r sent y kept) (I.numbers y)
-      pub stays : (n : ℕ) → r ≡ report.Refused n → (kept : List ℕ) → keeps r sent y kept ≡ kept
+      pub stays : (q : refusals.Refusal) → r ≡ report.Refused q → (kept : List ℕ) → keeps r sent y kept ≡ kept
 
-    refused_told : (n : ℕ) → Refusal n → EntryTells (report.Refused n) false x
-    unfolding record_kept when◌then◌else◌
-    refused_told n h =
-        record { says = refusal_says n h; sends = refusal_sends n h; leaves = refl; holds = λ kept k. rw (refusal_keeps n h) k; stays = λ m e kept. rw (refusal_keeps n h) }
+    refused_told : (q : refusals.Refusal) → EntryTells (report.Refused q) false x
+    unfolding record_kept chosen
+    refused_told q =
+        let n = of_refusals.number_of q in
+        let h = refusal_number q in
+        record { says = refusal_says n h ∙ ap report.Refused (refusal_of-number_of q); sends = refusal_sends n h; leaves = refl; holds = λ kept k. rw (refusal_keeps n h) k; stays = λ m e kept. rw (refusal_keeps n h) }
 
     carried_told : (r : Report) (sent : Bool) (y : F.End) → is_refusal r ≡ false → (I.okay y ≡ true) × I.Typed y → EntryTells r sent y
-    unfolding record_kept state.written when◌then◌else◌
+    unfolding record_kept state.written chosen
     carried_told r sent y e h =
         let keep = changed (I.numbers x) (I.numbers y) in
         let long = eq-eqb (length (I.bytes x)) I.size (I.long x typed) in
@@ -216,14 +222,14 @@ module _ {s : Side numbering} {F : Kind} {R : Runs s F} (I : InBytes R) where
           stays = λ n q kept. absurd (true≢false (sym (ap is_refusal q) ∙ e));
         }
 
-    told_so : (r : Report) (sent : Bool) (y : F.End) → ((n : ℕ) → r ≡ report.Refused n → Refusal n × ((sent ≡ false) × (y ≡ x))) → (is_refusal r ≡ false → (I.okay y ≡ true) × I.Typed y) → EntryTells r sent y
+    told_so : (r : Report) (sent : Bool) (y : F.End) → ((q : refusals.Refusal) → r ≡ report.Refused q → (sent ≡ false) × (y ≡ x)) → (is_refusal r ≡ false → (I.okay y ≡ true) × I.Typed y) → EntryTells r sent y
     told_so report.Nothing sent y refuses well = carried_told report.Nothing sent y refl (well refl)
     told_so report.Delivered sent y refuses well = carried_told report.Delivered sent y refl (well refl)
     told_so report.Ok sent y refuses well = carried_told report.Ok sent y refl (well refl)
     told_so report.Lost sent y refuses well = carried_told report.Lost sent y refl (well refl)
-    told_so (report.Refused n) sent y refuses well =
-        let h = refuses n refl in
-        subst (λ (z : F.End). EntryTells (report.Refused n) sent z) (sym h.1.1) (subst (λ (b : Bool). EntryTells (report.Refused n) b x) (sym h.1.0) (refused_told n h.0))
+    told_so (report.Refused q) sent y refuses well =
+        let h = refuses q refl in
+        subst (λ (z : F.End). EntryTells (report.Refused q) sent z) (sym h.1) (subst (λ (b : Bool). EntryTells (report.Refused q) b x) (sym h.0) (refused_told q))
 
   -- what an entry's step makes of a state whose fields are z
   abbrev entry : List ℕ → Call → F.End → Stepped
@@ -240,7 +246,7 @@ module _ {s : Side numbering} {F : Kind} {R : Runs s F} (I : InBytes R) where
   abbrev kind_of : Kind
   kind_of =
       in_c (λ s c. entry s c (I.at s)) (λ t kept. record_kept t.told (I.okay (I.at t.state)) (I.record_of (I.numbers (I.at t.state))) kept)
-      (λ s kept. started I.size s (start_in I.end (record_read kept)) (I.bytes (I.downed (numbers_kept (start_in I.end (record_read kept)).number (start_in I.end (record_read kept)).block))))
+      (λ s kept. started I.size s (start_in I.end (record_read kept)) (start_bytes (λ n. I.bytes (I.downed n)) (start_in I.end (record_read kept))))
       F.is_for
 
   abbrev Stands : List ℕ → s.E → Type 0
@@ -250,9 +256,9 @@ module _ {s : Side numbering} {F : Kind} {R : Runs s F} (I : InBytes R) where
   RecordHolds kept n = Holds I.end kept (numbers_back n)
 
   starts_so : (z : List ℕ) (e : s.E) (kept : List ℕ) (n : supply.Numbers) → Stands z e → s.Fine e → RecordHolds kept n → numbering.sound n ≡ true → Stands (kind_of.starts z kept) (s.downed (numbering.back n))
-  unfolding started start_refusal when◌then◌else◌
+  unfolding started start_refusal chosen
   starts_so z e kept n stands fine holds sound =
-      (λ i. started I.size z (holds i) (I.bytes (I.downed (numbers_kept (holds i).number (holds i).block))))
+      (λ i. started I.size z (holds i) (start_bytes (λ m. I.bytes (I.downed m)) (holds i)))
       ∙ rw (eq-eqb (length z) I.size (ap length stands ∙ I.long (I.back e) (I.well e fine).1))
       (ap (λ (m : Numbers). I.bytes (I.downed m)) (back_holds _ n refl sound) ∙ ap I.bytes (I.back_downed (numbering.back n)))
 
@@ -279,11 +285,11 @@ module _ {s : Side numbering} {F : Kind} {R : Runs s F} (I : InBytes R) where
         (λ r.
         let t = tells (λ q. absurd (true≢false (sym (ap is_refusal r.says) ∙ q))) in
         record {
-          number = r.number;
+          refusal = r.refusal;
           says = t.says ∙ r.says;
           sends = t.sends ∙ r.sends;
           stands = t.leaves ∙ ap I.bytes (I.is_back (F.left d) e r.stands);
-          keeps = t.stays r.number r.says kept;
+          keeps = t.stays r.refusal r.says kept;
         })
         (λ r.
         let after = s.after e r.act in
@@ -353,9 +359,9 @@ console_in_bytes =
       downed = downed_console;
       back_downed = λ n. refl;
       refuses =
-          λ x c typed n q.
-          let f = console_refusal_leaves x typed.message c.message c.reply c.letter c.packet n q in
-          (console_refusal_number x c.message c.packet c.reply c.letter n q, (ap (λ (d : ConsoleAlone). d.outcome.sent) f, ap (λ (d : ConsoleAlone). d.outcome.console) f));
+          λ x c typed q says.
+          let f = console_refusal_leaves x typed.message c.message c.reply c.letter c.packet q says in
+          (ap (λ (d : ConsoleAlone). d.outcome.sent) f, ap (λ (d : ConsoleAlone). d.outcome.console) f);
       delivered = λ d c. [];
       delivers = λ r d c says cells. tt;
     }
@@ -405,9 +411,9 @@ controller_in_bytes =
       downed = downed_controller;
       back_downed = λ n. refl;
       refuses =
-          λ x c typed n q.
-          let f = controller_refusal_leaves x c.reply c.letter c.packet n q in
-          (controller_refusal_number x c.packet c.reply c.letter n q, (ap (λ (d : ControllerAlone). d.outcome.sent) f, ap (λ (d : ControllerAlone). d.outcome.controller) f));
+          λ x c typed q says.
+          let f = controller_refusal_leaves x c.reply c.letter c.packet q says in
+          (ap (λ (d : ControllerAlone). d.outcome.sent) f, ap (λ (d : ControllerAlone). d.outcome.controller) f);
       delivered = λ d c. delivered_to d.outcome.report d.outcome.message c.lent;
       delivers = λ r d c says cells. lent_cells r d.outcome.report d.outcome.message c.lent says cells;
     }

@@ -1,5 +1,6 @@
 -- Demand 3 of the bench for C: of any calls of `nooseless_bench_step` that follow `nooseless_bench_fresh`, by the bytes that they return and leave. Assumes
 -- nothing. `fresh_put` and `step_put` are the two entries' own promises, so that these calls are the entries' calls.
+use Rattle.ground.specs.Refusals.{refusal_of}
 use Rattle.std.specs.Prelude.{ℕ, ◌≡◌, true, false, List, [], ◌∷◌, map, eqb}
 use Rattle.std.proofs.Math.Option
 use Rattle.ground.specs.Cell.{is_message}
@@ -45,7 +46,7 @@ byte_says t =
     else when eqb t 64 then report.Delivered
     else when eqb t 65 then report.Ok
     else when eqb t 66 then report.Lost
-    else report.Refused t
+    else report.Refused (refusal_of t)
 
 -- the row that each call shows, by what C handed in and sees
 unfoldable pub calls_show : List Call → List Seen → Rows

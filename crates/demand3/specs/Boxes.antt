@@ -2,7 +2,7 @@
 -- promises are `console_alone` and `controller_alone`. Assumes nothing.
 use Rattle.std.specs.Prelude.{ℕ, ◌≡◌, Bool, true, false, not, List, []}
 use Rattle.ground.specs.Cell.{spaces}
-use Rattle.wire.specs.Packet.{packet_read}
+use Rattle.wire.specs.Packet.{head_read}
 use Rattle.rules.specs.Supply.{numbering}
 use Rattle.rules.specs.Ends.{absent}
 use Rattle.numbers.specs.Numbers.{numbers_means, numbers_kept}
@@ -23,10 +23,10 @@ use Rattle.demand3.specs.AnyBoxes.{Kind, Boxes, Event, AnyRight}
 
 -- do bytes read as a packet for the console, for the controller?
 abbrev pub is_for_console : List ℕ → Bool
-is_for_console s = not (absent (for_console (read_for_console (packet_read s).head)))
+is_for_console s = not (absent (for_console (read_for_console (head_read s))))
 
 abbrev pub is_for_controller : List ℕ → Bool
-is_for_controller s = not (absent (for_controller (read_for_controller (packet_read s).head)))
+is_for_controller s = not (absent (for_controller (read_for_controller (head_read s))))
 
 -- what is kept of an end: its numbers as its number record holds them
 abbrev pub console_kind : Kind

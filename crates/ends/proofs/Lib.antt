@@ -1,6 +1,9 @@
 pub mod Determined
+pub mod DeterminedTurns
 pub mod Directions
 pub mod Reports
+pub mod Sending
 pub mod Wrong
 pub mod WrongKinds
-pub mod WrongNumbers
+pub mod WrongSending
+pub mod WrongTurns

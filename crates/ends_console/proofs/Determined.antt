@@ -5,8 +5,6 @@ use Rattle.ends_console.proofs.turns.needi_sent.Kinds as needi-sent-kinds
 use Rattle.ends_console.proofs.turns.needi_sent.Reads as needi-sent
 use Rattle.ends_console.proofs.turns.data_sent.Kinds as data-sent-kinds
 use Rattle.ends_console.proofs.turns.data_sent.Reads as data-sent
-use Rattle.ends_console.proofs.refusals.send_refusal.Kinds as send-refusal-kinds
-use Rattle.ends_console.proofs.refusals.send_refusal.Reads as send-refusal
 use Rattle.ends_console.proofs.refusals.ack_refusal.Kinds as ack-refusal-kinds
 use Rattle.ends_console.proofs.refusals.ack_refusal.Reads as ack-refusal
 use Rattle.ends_console.proofs.ack.ack_use.Kinds as ack-use-kinds
@@ -39,9 +37,6 @@ needi_sent_determined κs a x y s t p q = p ∙ sym q
 
 pub data_sent_determined : Determined data-sent-kinds.ps data-sent-kinds.r data-sent.Post
 data_sent_determined κs a x y s t p q = p ∙ sym q
-
-pub send_refusal_determined : Determined send-refusal-kinds.ps send-refusal-kinds.r send-refusal.Post
-send_refusal_determined κs a x y s t p q = p ∙ sym q
 
 pub ack_refusal_determined : Determined ack-refusal-kinds.ps ack-refusal-kinds.r ack-refusal.Post
 ack_refusal_determined κs a x y s t p q = p ∙ sym q

@@ -3,22 +3,20 @@ use Prim.Native.Nat.{ℕ, ◌<◌}
 use mathlib.Core.Path.{◌≡◌, refl, sym, ap, ◌∙◌, subst}
 use mathlib.Core.Bool.{Bool, true, false, not, ◌&&◌}
 use native.Mathlib.Omega.{arith}
-use borrow.Author.Tests.{eq-eqb, ne_eqb, not-true, not-false, eqb-true, eqb-false}
+use borrow.Author.Tests.{ne_eqb, not-true, eqb-true, eqb-false}
 use lib.ListN.{length, replicate}
 use lib.Dec.{eqb}
+use Rattle.std.specs.Prelude.{Option, None, Some}
+use Rattle.ground.proofs.Options.{none_is_not_some, some_is_one}
 use Rattle.ground.proofs.Tests.{by_test, and_left, and_right}
 use Rattle.ground.proofs.Every.{filled_is}
-use Rattle.ends_console.specs.declared.End.{End}
-use Rattle.ground.specs.Cell.{cells, is_message, spaces}
+use Rattle.ends_console.specs.Types.{End}
+use Rattle.ground.specs.Cell.{is_message, spaces}
 use Rattle.ground.specs.Every.{filled}
-use Rattle.ground.specs.Choice.{when◌then◌else◌}
+use Rattle.ground.specs.Choice.{chosen, when◌then◌else◌}
 use Rattle.ends_console.specs.declared.Mode.{Mode}
 use Rattle.ends_console.specs.declared.Mode.TheVariants.{Idle, NeedI, Send}
 use Rattle.ends_console.specs.declared.fields.Console.{Console}
-use Rattle.ends_console.specs.declared.fields.ConsoleRead.{ConsoleRead}
-use Rattle.ends_console.specs.declared.fields.ConsoleRead.TheVariants.{IllFormed, Is}
-use Rattle.ends_console.specs.declared.fields.ModeRead.{ModeRead}
-use Rattle.ends_console.specs.declared.fields.ModeRead.TheVariants as mode-read
 use Rattle.ends.specs.AsRules.{end_refusal}
 use Rattle.ends_console.specs.Fields.{variables_fit, variables_mode, mode_read, own_or_none, console_read_refusal, console_ok, console_mode, console_read, console_with, console_fields, console_end}
 use Rattle.rules.specs.Supply.{numbering}
@@ -32,104 +30,44 @@ use mathlib.Core.List.{List}
 abbrev pub Sound : Numbers → Type 0
 Sound u = numbering.sound (numbers_means u) ≡ true
 
--- ## The variables, with a message held
-
-module _ (held : Bool) (m : List ℕ) (j : J) (l : I) {r : Bool} (yes : held ≡ true) (long : length m ≡ 16) (tested : r ≡ cells m) where
-  pub no_cells : not r ≡ true → mode-read.IllFormed ≡ mode_read held m j l
-  unfolding mode_read is_message when◌then◌else◌
-  no_cells f = rw (yes, eq-eqb (length m) 16 long, ← tested, not-true r f)
-
-  module _ {p q : Bool} (good : not r ≡ false) (jt : p ≡ eqb j.0 0) (lt : q ≡ eqb l.0 0) where
-    pub neither : p ≡ true → q ≡ true → mode-read.IllFormed ≡ mode_read held m j l
-    unfolding mode_read is_message when◌then◌else◌
-    neither y z = rw (yes, eq-eqb (length m) 16 long, ← tested, not-false r good, ← jt, y, ← lt, z)
-
-    pub in_send : p ≡ true → q ≡ false → mode-read.Is (Send l) ≡ mode_read held m j l
-    unfolding mode_read is_message when◌then◌else◌
-    in_send y n = rw (yes, eq-eqb (length m) 16 long, ← tested, not-false r good, ← jt, y, ← lt, n)
-
-    pub both : p ≡ false → not q ≡ true → mode-read.IllFormed ≡ mode_read held m j l
-    unfolding mode_read is_message when◌then◌else◌
-    both n s = rw (yes, eq-eqb (length m) 16 long, ← tested, not-false r good, ← jt, n, ← lt, not-true q s)
-
-    pub in_need_i : p ≡ false → not q ≡ false → mode-read.Is (NeedI j) ≡ mode_read held m j l
-    unfolding mode_read is_message when◌then◌else◌
-    in_need_i n z = rw (yes, eq-eqb (length m) 16 long, ← tested, not-false r good, ← jt, n, ← lt, not-false q z)
-
--- ## With none
-
-module _ (held : Bool) (m : List ℕ) (j : J) (l : I) {p : Bool} (no : held ≡ false) (jt : p ≡ eqb j.0 0) where
-  pub j_set : not p ≡ true → mode-read.IllFormed ≡ mode_read held m j l
-  unfolding mode_read when◌then◌else◌
-  j_set s = rw (no, ← jt, not-true p s)
-
-  module _ {q : Bool} (y : not p ≡ false) (lt : q ≡ eqb l.0 0) where
-    pub last_set : not q ≡ true → mode-read.IllFormed ≡ mode_read held m j l
-    unfolding mode_read when◌then◌else◌
-    last_set s = rw (no, ← jt, not-false p y, ← lt, not-true q s)
-
-    pub no_spaces : {r : Bool} → not q ≡ false → r ≡ filled 0x20 m → not r ≡ true → mode-read.IllFormed ≡ mode_read held m j l
-    unfolding mode_read when◌then◌else◌
-    no_spaces {r} z t f = rw (no, ← jt, not-false p y, ← lt, not-false q z, ← t, not-true r f)
-
-    pub is_idle : {r : Bool} → not q ≡ false → r ≡ filled 0x20 m → not r ≡ false → mode-read.Is Idle ≡ mode_read held m j l
-    unfolding mode_read when◌then◌else◌
-    is_idle {r} z t f = rw (no, ← jt, not-false p y, ← lt, not-false q z, ← t, not-false r f)
-
-pub ruleset modes = (no_cells, neither, in_send, both, in_need_i, j_set, last_set, no_spaces, is_idle)
-
--- ## A j of its own
-
-module _ (u : Numbers) (j : J) {p : Bool} (jt : p ≡ eqb j.0 0) where
-  pub none_set : p ≡ true → true ≡ own_or_none u j
-  unfolding when◌then◌else◌
-  none_set y = rw (← jt, y)
-
-  pub set_used : {o : Bool} → p ≡ false → o ≡ numbering.used (numbers_means u) j.0 → o ≡ own_or_none u j
-  unfolding when◌then◌else◌
-  set_used n h = rw (← jt, n) h
-
 -- ## The whole: numbers that are sound, variables that fit, a j of its own
 
 abbrev fit : Console → Bool
 fit c = variables_fit c.held c.message c.j c.last
 
-pub unsound : {s : Bool} (c : Console) → s ≡ numbering.sound (numbers_means c.numbers) → not s ≡ true → IllFormed ≡ console_read c
-unfolding console_read console_ok when◌then◌else◌
-unsound {s} c e n = rw (← e, not-true s n)
+pub unsound : {s : Bool} (c : Console) → s ≡ numbering.sound (numbers_means c.numbers) → s ≡ false → None ≡ console_read c
+unfolding console_read console_ok chosen
+unsound c e n = rw (← e, n)
 
 -- what the variables that were read are
-fitting : (held : Bool) (m : List ℕ) (j : J) (l : I) {k : Mode} → mode-read.Is k ≡ mode_read held m j l → (variables_fit held m j l ≡ true) × (k ≡ variables_mode held j l)
-unfolding mode_read when◌then◌else◌
+fitting : (held : Bool) (m : List ℕ) (j : J) (l : I) {k : Mode} → Some k ≡ mode_read held m j l → (variables_fit held m j l ≡ true) × (k ≡ variables_mode held j l)
+unfolding mode_read chosen
 fitting held m j l {k} h =
     by_test (variables_fit held m j l)
-    (λ t. let q : mode-read.Is k ≡ mode-read.Is (variables_mode held j l) = rw t at h in (t, cc))
-    (λ f. let q : mode-read.Is k ≡ mode-read.IllFormed = rw f at h in let z : ◌≡◌ {A = ℕ} 1 0 = cc in absurd (omega (arith, z)))
+    (λ t. (t, some_is_one k (variables_mode held j l) (rw t at h)))
+    (λ f. absurd (none_is_not_some k (sym (rw f at h))))
 
-misfit : (held : Bool) (m : List ℕ) (j : J) (l : I) → mode-read.IllFormed ≡ mode_read held m j l → variables_fit held m j l ≡ false
-unfolding mode_read when◌then◌else◌
+misfit : (held : Bool) (m : List ℕ) (j : J) (l : I) → None ≡ mode_read held m j l → variables_fit held m j l ≡ false
+unfolding mode_read chosen
 misfit held m j l h =
-    by_test (variables_fit held m j l)
-    (λ t. let q : mode-read.IllFormed ≡ mode-read.Is (variables_mode held j l) = rw t at h in let z : ◌≡◌ {A = ℕ} 0 1 = cc in absurd (omega (arith, z)))
-    (λ f. f)
+    by_test (variables_fit held m j l) (λ t. absurd (none_is_not_some (variables_mode held j l) (rw t at h))) (λ f. f)
 
-module _ {s : Bool} {x : ModeRead} (c : Console) (e : s ≡ numbering.sound (numbers_means c.numbers)) (n : not s ≡ false)
-    (read : x ≡ mode_read c.held c.message c.j c.last) where
-  pub unfit : x ≡ mode-read.IllFormed → IllFormed ≡ console_read c
-  unfolding console_read console_ok when◌then◌else◌
-  unfit h = rw (← e, not-false s n, misfit c.held c.message c.j c.last (sym h ∙ read))
+module _ {s : Bool} (c : Console) (e : s ≡ numbering.sound (numbers_means c.numbers)) (n : s ≡ true) where
+  pub unfit : None ≡ mode_read c.held c.message c.j c.last → None ≡ console_read c
+  unfolding console_read console_ok chosen
+  unfit h = rw (← e, n, misfit c.held c.message c.j c.last h)
 
-  module _ {o : Bool} {k : Mode} (h : x ≡ mode-read.Is k) (t : o ≡ own_or_none c.numbers c.j) where
+  module _ {o : Bool} {k : Mode} (h : Some k ≡ mode_read c.held c.message c.j c.last) (t : o ≡ own_or_none c.numbers c.j) where
     fits : (fit c ≡ true) × (k ≡ variables_mode c.held c.j c.last)
-    fits = fitting c.held c.message c.j c.last (sym h ∙ read)
+    fits = fitting c.held c.message c.j c.last h
 
-    pub not_its_own : not o ≡ true → IllFormed ≡ console_read c
-    unfolding console_read console_ok when◌then◌else◌
-    not_its_own f = rw (← e, not-false s n, fits.0, ← t, not-true o f)
+    pub not_its_own : o ≡ false → None ≡ console_read c
+    unfolding console_read console_ok chosen
+    not_its_own f = rw (← e, n, fits.0, ← t, f)
 
-    pub well : not o ≡ false → Is (record { numbers = c.numbers; mode = k; up = c.up }) ≡ console_read c
-    unfolding console_read console_ok console_mode when◌then◌else◌
-    well f = rw (← e, not-false s n, fits.0, ← t, not-false o f, fits.1)
+    pub well : o ≡ true → Some (record { numbers = c.numbers; mode = k; up = c.up }) ≡ console_read c
+    unfolding console_read console_ok console_mode chosen
+    well f = rw (← e, n, fits.0, ← t, f, fits.1)
 
 pub ruleset whole = (unsound, unfit, not_its_own, well)
 
@@ -152,11 +90,11 @@ abbrev one_set : J → I → Bool
 one_set j l = when eqb j.0 0 then not (eqb l.0 0) else eqb l.0 0
 
 one_last : (j : J) (l : I) → one_set j l ≡ true → eqb j.0 0 ≡ true → eqb l.0 0 ≡ false
-unfolding when◌then◌else◌
+unfolding chosen
 one_last j l o t = let n : not (eqb l.0 0) ≡ true = rw t at o in not-true (eqb l.0 0) n
 
 one_j : (j : J) (l : I) → one_set j l ≡ true → eqb j.0 0 ≡ false → l.0 ≡ 0
-unfolding when◌then◌else◌
+unfolding chosen
 one_j j l o f = let z : eqb l.0 0 ≡ true = rw f at o in eqb-true l.0 0 z
 
 above_0 : (n : ℕ) → eqb n 0 ≡ false → 0 < n
@@ -174,7 +112,7 @@ pub by_variables : (P : Bool → List ℕ → J → I → Type 0)
     → ((j : J) (m : List ℕ) → 0 < j.0 → is_message m ≡ true → P true m j none_i)
     → ((l : I) (m : List ℕ) → 0 < l.0 → is_message m ≡ true → P true m none_j l)
     → (held : Bool) (m : List ℕ) (j : J) (l : I) → length m ≡ 16 → variables_fit held m j l ≡ true → P held m j l
-unfolding when◌then◌else◌
+unfolding chosen
 by_variables P idle need send true m j l long ok =
     let row = and_left (is_message m) (one_set j l) ok in
     let one = and_right (is_message m) (one_set j l) ok in
@@ -190,7 +128,7 @@ by_variables P idle need send false m j l long ok =
     (subst (λ (x : List ℕ). P false x none_j none_i) (sym same) idle))
 
 set_own : (u : Numbers) (j : J) → 0 < j.0 → own_or_none u j ≡ true → its_own u j ≡ true
-unfolding when◌then◌else◌
+unfolding chosen
 set_own u j h o = rw (ne_eqb j.0 0 (omega (arith, h))) at o
 
 -- by the mode that the fields stand for
@@ -214,38 +152,37 @@ abbrev Same : Console → Type 0
 Same c = console_fields (console_end c) c.ack c.message ≡ c
 
 need_same : (u : Numbers) (j : J) (up ack : Bool) (m : List ℕ) → Sound u → 0 < j.0 → its_own u j ≡ true → is_message m ≡ true → Same (console_with u (NeedI j) up ack m)
-unfolding console_mode when◌then◌else◌
+unfolding console_mode chosen
 need_same u j up ack m s h l g = rw (ne_eqb j.0 0 (omega arith))
 
 send_same : (u : Numbers) (l : I) (up ack : Bool) (m : List ℕ) → Sound u → 0 < l.0 → is_message m ≡ true → Same (console_with u (Send l) up ack m)
-unfolding console_mode when◌then◌else◌
+unfolding console_mode chosen
 send_same u l up ack m s h g = refl
 
 idle_same : (u : Numbers) (up ack : Bool) → Sound u → Same (console_with u Idle up ack spaces)
-unfolding console_mode when◌then◌else◌
+unfolding console_mode chosen
 idle_same u up ack s = refl
 
 pub fields_back : (c : Console) → length c.message ≡ 16 → console_ok c ≡ true → Same c
 fields_back c long ok = by_mode Same idle_same need_same send_same c long ok
 
 -- what a console that was read is
-pub was_read : (c : Console) {e : End} → console_read c ≡ Is e → (console_ok c ≡ true) × (e ≡ console_end c)
-unfolding console_read when◌then◌else◌
+pub was_read : (c : Console) {e : End} → console_read c ≡ Some e → (console_ok c ≡ true) × (e ≡ console_end c)
+unfolding console_read chosen
 was_read c {e} h =
     by_test (console_ok c)
-    (λ t. let q : Is (console_end c) ≡ Is e = rw t at h in (t, cc))
-    (λ f. let q : IllFormed ≡ Is e = rw f at h in let z : ◌≡◌ {A = ℕ} 0 1 = cc in absurd (omega (arith, z)))
+    (λ t. (t, sym (some_is_one (console_end c) e (rw t at h))))
+    (λ f. absurd (none_is_not_some e (rw f at h)))
 
-pub not_read : (c : Console) → console_read c ≡ IllFormed → console_ok c ≡ false
-unfolding console_read when◌then◌else◌
-not_read c h =
-    by_test (console_ok c) (λ t. let q : Is (console_end c) ≡ IllFormed = rw t at h in let z : ◌≡◌ {A = ℕ} 1 0 = cc in absurd (omega (arith, z))) (λ f. f)
+pub not_read : (c : Console) → console_read c ≡ None → console_ok c ≡ false
+unfolding console_read chosen
+not_read c h = by_test (console_ok c) (λ t. absurd (none_is_not_some (console_end c) (sym (rw t at h)))) (λ f. f)
 
-pub numbered : {read : ConsoleRead} (c : Console) → read ≡ console_read c → (read ≡ console_read c) × (console_read_refusal read ≡ end_refusal (console_ok c))
-unfolding console_read when◌then◌else◌
+pub numbered : {read : Option End} (c : Console) → read ≡ console_read c → (read ≡ console_read c) × (console_read_refusal read ≡ end_refusal (console_ok c))
+unfolding console_read chosen
 numbered c f = (f, ap console_read_refusal f ∙ by_test (console_ok c) (λ t. rw t) (λ f. rw f))
 
 -- an idle console whose numbers are sound is well formed
 pub idle_ok : (u : Numbers) (up ack : Bool) → Sound u → console_ok (console_with u Idle up ack spaces) ≡ true
-unfolding console_ok filled when◌then◌else◌
+unfolding console_ok filled chosen
 idle_ok u up ack s = rw s

@@ -4,8 +4,6 @@ pub mod Determined
 pub mod FieldsAsRules
 pub mod FieldsRead
 pub mod MessageBeside
-pub mod PacketTaken
-pub mod PutRefused
 pub mod ShownReport
 pub mod WellFormed
 pub mod Wrong

@@ -5,7 +5,7 @@ use mathlib.Core.Bool.{Bool, false, false≢true}
 use mathlib.Core.Option.{Option, none, some}
 use mathlib.Core.List.{List}
 use borrow.Author.Tests.{ne_eqb, eq-eqb}
-use Rattle.ground.specs.Choice.{when◌then◌else◌}
+use Rattle.ground.specs.Choice.{chosen}
 use Rattle.ground.specs.Cell.{is_message}
 use Rattle.ground.specs.First.{refusal, applies}
 use Rattle.rules.specs.Supply.{Supply}
@@ -48,12 +48,12 @@ module _ {S : Type 0} (U : Supply S) where
 
   -- a refusal leaves the end
   pub step_refused : (e : rules.Console S Beside) (h : List ℕ) (a : rules.ConsoleAct Beside) (m : List ℕ) → (refusal_of e a m ≡ 0 → ⊥) → stepped e h a m ≡ record { report = rules.refused (refusal_of e a m); sent = none; after = in_console (λ _. h) e }
-  unfolding rules.console_step when◌then◌else◌
+  unfolding rules.console_step chosen
   step_refused e h a m n = rw (same_refusal e h a m, ne_eqb (refusal_of e a m) 0 n)
 
   -- 8 does not apply: there is a number left
   number_left : (e : rules.Console S Beside) (m : List ℕ) → refusal_of e (rules.put tt) m ≡ 0 → rules.absent (U.next e.numbers) ≡ false
-  unfolding rules.console_rules applies when◌then◌else◌
+  unfolding rules.console_rules applies chosen
   number_left e m z = passed (rules.console_rules U (tested (is_message m)) e (rules.put tt)) z 8 tt
 
   -- a put that finds a number
@@ -73,5 +73,5 @@ module _ {S : Type 0} (U : Supply S) where
   acts_kept e h rules.tell_ack m z = nat_console_acts (λ _. h) U e rules.tell_ack
 
   pub step_done : (e : rules.Console S Beside) (h : List ℕ) (a : rules.ConsoleAct Beside) (m : List ℕ) → refusal_of e a m ≡ 0 → stepped e h a m ≡ in_console_acted (λ _. kept a m h) (rules.console_acts U e a)
-  unfolding rules.console_step when◌then◌else◌
+  unfolding rules.console_step chosen
   step_done e h a m z = rw (same_refusal e h a m, eq-eqb (refusal_of e a m) 0 z) (acts_kept e h a m z)

@@ -7,7 +7,7 @@ use native.Mathlib.Omega.{arith}
 use lib.ListN.{length}
 use borrow.Author.Tests.{ne_eqb}
 use Rattle.ground.specs.Cell.{is_message, spaces}
-use Rattle.ground.specs.Choice.{when◌then◌else◌}
+use Rattle.ground.specs.Choice.{chosen}
 use Rattle.wire.specs.declared.I.{I}
 use Rattle.wire.specs.declared.J.{J}
 use Rattle.rules.specs.Supply as supply
@@ -31,15 +31,15 @@ abbrev Meant : Console → Type 0
 Meant c = c.last.0 < 2 ^ 32 → ConsoleOk numbering is_message (console_means c)
 
 idle_meant : (u : Numbers) (up ack : Bool) → Sound u → Meant (console_with u Idle up ack spaces)
-unfolding console_mode when◌then◌else◌
+unfolding console_mode chosen
 idle_meant u up ack s b = record { numbers = s; mode = tt }
 
 need_i_meant : (u : Numbers) (j : J) (up ack : Bool) (m : List ℕ) → Sound u → 0 < j.0 → its_own u j ≡ true → is_message m ≡ true → Meant (console_with u (NeedI j) up ack m)
-unfolding console_mode when◌then◌else◌
+unfolding console_mode chosen
 need_i_meant u j up ack m s h o g b = rw (ne_eqb j.0 0 (omega arith)) (record { numbers = s; mode = (given_is (numbers_means u) j.0 s h o, g) })
 
 send_meant : (u : Numbers) (l : I) (up ack : Bool) (m : List ℕ) → Sound u → 0 < l.0 → is_message m ≡ true → Meant (console_with u (Send l) up ack m)
-unfolding console_mode when◌then◌else◌
+unfolding console_mode chosen
 send_meant u l up ack m s h g b = record { numbers = s; mode = (number_is l.0 h b, g) }
 
 pub console_good : (c : Console) → length c.message ≡ 16 → console_ok c ≡ true → c.last.0 < 2 ^ 32 → ConsoleOk numbering is_message (console_means c)
@@ -52,15 +52,15 @@ ConsoleStands r = (console_ok (console_back r) ≡ true) × (console_reads (cons
 
 module _ (u : supply.Numbers) (up ack : Bool) (s : numbering.sound u ≡ true) where
   idle_stands : ConsoleStands (reading (record { numbers = u; mode = rules.ConsoleMode.idle; up = up }) ack)
-  unfolding console_mode when◌then◌else◌
+  unfolding console_mode chosen
   idle_stands = (idle_ok (numbers_back u) up ack s, refl)
 
   need_i_stands : (j : ℕ) (m : List ℕ) → 0 < j → numbering.used u j ≡ true → is_message m ≡ true → ConsoleStands (reading (record { numbers = u; mode = rules.in_need_i j m; up = up }) ack)
-  unfolding console_ok console_mode when◌then◌else◌
+  unfolding console_ok console_mode chosen
   need_i_stands j m h o g = rw (s, ne_eqb j 0 (omega (arith, h)), g, o) (refl, refl)
 
   send_stands : (l : ℕ) (m : List ℕ) → 0 < l → is_message m ≡ true → ConsoleStands (reading (record { numbers = u; mode = rules.in_send l m; up = up }) ack)
-  unfolding console_ok console_mode when◌then◌else◌
+  unfolding console_ok console_mode chosen
   send_stands l m h g = rw (s, ne_eqb l 0 (omega (arith, h)), g) (refl, refl)
 
   mode_stands : (k : rules.ConsoleMode (List ℕ)) → ConsoleBears (Given numbering u) (Number numbering) (Good is_message) k → ConsoleStands (reading (record { numbers = u; mode = k; up = up }) ack)

@@ -5,14 +5,14 @@ use mathlib.Core.Bool.{Bool, true, false, true≢false, false≢true}
 use mathlib.Core.List.{List}
 use lib.ListN.{get_or, replicate}
 use Rattle.ground.specs.Cell.{cells, is_message, spaces}
-use Rattle.ground.specs.Choice.{when◌then◌else◌}
+use Rattle.ground.specs.Choice.{chosen}
 use Rattle.ground.specs.Every.{filled}
 use Rattle.ground.proofs.Promise.{RulesOut, unequal}
 use Rattle.numbers.specs.Numbers.{numbers_fresh}
 use Rattle.ends.specs.AsRules.{end_refusal}
 use Rattle.ends_console.specs.Fields.{console_ok, console_read_refusal, console_fields, fresh_console, downed_console}
 use Rattle.ends_console.specs.declared.Mode.TheVariants as console-mode
-use Rattle.ends_console.specs.declared.End as console
+use Rattle.ends_console.specs.Types as console
 use Rattle.ends_console.specs.declared.fields.Console.{Console}
 use Rattle.ends_console.proofs.fields.read_console.Kinds as read-console-kinds
 use Rattle.ends_console.proofs.fields.read_console.Reads as read-console
@@ -35,19 +35,19 @@ abbrev idle_console : ℕ → console.End
 idle_console used = record { numbers = numbers_fresh used; mode = console-mode.Idle; up = true }
 
 pub takes_j_and_last : RulesOut read-console-kinds.ps read-console-kinds.r read-console.Post (λ κs a. a.0 ≡ console_with_fields 1 true spaces 1 1 true) (λ κs a x s. console_read_refusal x ≡ 0)
-unfolding console_ok is_message cells filled when◌then◌else◌
+unfolding console_ok is_message cells filled chosen
 takes_j_and_last κs a x s e w p = unequal (sym w ∙ p.1 ∙ ap (λ c. end_refusal (console_ok c)) e) refl
 
 pub takes_j_above_last_used : RulesOut read-console-kinds.ps read-console-kinds.r read-console.Post (λ κs a. a.0 ≡ console_with_fields 0 true spaces 1 0 true) (λ κs a x s. console_read_refusal x ≡ 0)
-unfolding console_ok is_message cells filled when◌then◌else◌
+unfolding console_ok is_message cells filled chosen
 takes_j_above_last_used κs a x s e w p = unequal (sym w ∙ p.1 ∙ ap (λ c. end_refusal (console_ok c)) e) refl
 
 pub takes_a_row_that_is_not_held : RulesOut read-console-kinds.ps read-console-kinds.r read-console.Post (λ κs a. a.0 ≡ console_with_fields 0 false row 0 0 true) (λ κs a x s. console_read_refusal x ≡ 0)
-unfolding console_ok is_message cells filled when◌then◌else◌
+unfolding console_ok is_message cells filled chosen
 takes_a_row_that_is_not_held κs a x s e w p = unequal (sym w ∙ p.1 ∙ ap (λ c. end_refusal (console_ok c)) e) refl
 
 pub takes_a_held_0x7_f : RulesOut read-console-kinds.ps read-console-kinds.r read-console.Post (λ κs a. a.0 ≡ console_with_fields 1 true (replicate 16 0x7F) 1 0 true) (λ κs a x s. console_read_refusal x ≡ 0)
-unfolding console_ok is_message cells filled when◌then◌else◌
+unfolding console_ok is_message cells filled chosen
 takes_a_held_0x7_f κs a x s e w p = unequal (sym w ∙ p.1 ∙ ap (λ c. end_refusal (console_ok c)) e) refl
 
 pub keeps_the_message_when_idle : RulesOut console-of-kinds.ps console-of-kinds.r console-of.Post (λ κs a. (a.0 ≡ idle_console 1) × (a.1.1.0 ≡ row)) (λ κs a x s. x.message ≡ a.1.1.0)

@@ -3,6 +3,7 @@ use mathlib.Core.Path.{◌≡◌, refl, sym, ap, ◌∙◌}
 use mathlib.Core.Bool.{true, false, true≢false}
 use mathlib.Core.List.{[], ◌∷◌}
 use Rattle.ground.specs.First.{first}
+use Rattle.ground.specs.Refusals.{refused_by, refusal_in}
 use Rattle.ground.proofs.Promise.{RulesOut, unequal, clash}
 use Rattle.rules.specs.Ends as rules
 use Rattle.rules.specs.Reading.{said, ack_after}
@@ -44,10 +45,10 @@ unfolding acked ack_after
 tells_it_again κs a x s e w p = true≢false (sym w ∙ ap (λ (d : Shown). d.ack) (p ∙ (λ i. acked (use_means (e.0 i)) a.1.0 (e.1 i))))
 
 -- down, with a message held
-pub ack_says_6_before_4 : RulesOut ack-refusal-kinds.ps ack-refusal-kinds.r ack-refusal.Post (λ κs a. (a.0 ≡ NeedI (record { 0 = 3 })) × (a.1.0 ≡ false)) (λ κs a x s. x ≡ 6)
+pub ack_says_6_before_4 : RulesOut ack-refusal-kinds.ps ack-refusal-kinds.r ack-refusal.Post (λ κs a. (a.0 ≡ NeedI (record { 0 = 3 })) × (a.1.0 ≡ false)) (λ κs a x s. x ≡ refused_by 6)
 unfolding rules.ends
-ack_says_6_before_4 κs a x s e w p = unequal (sym w ∙ (p ∙ (λ i. first (rules.down_4 (e.1 i) ∷ (6, rules.holding (mode (e.0 i))) ∷ [])))) refl
+ack_says_6_before_4 κs a x s e w p = unequal (ap refusal_in (sym w ∙ (p ∙ (λ i. refused_by (first (rules.down_4 (e.1 i) ∷ (6, rules.holding (mode (e.0 i))) ∷ [])))))) refl
 
-pub ack_told_while_one_is_held : RulesOut ack-refusal-kinds.ps ack-refusal-kinds.r ack-refusal.Post (λ κs a. (a.0 ≡ Send (record { 0 = 3 })) × (a.1.0 ≡ true)) (λ κs a x s. x ≡ 0)
+pub ack_told_while_one_is_held : RulesOut ack-refusal-kinds.ps ack-refusal-kinds.r ack-refusal.Post (λ κs a. (a.0 ≡ Send (record { 0 = 3 })) × (a.1.0 ≡ true)) (λ κs a x s. x ≡ refused_by 0)
 unfolding rules.ends
-ack_told_while_one_is_held κs a x s e w p = unequal (sym w ∙ (p ∙ (λ i. first (rules.down_4 (e.1 i) ∷ (6, rules.holding (mode (e.0 i))) ∷ [])))) refl
+ack_told_while_one_is_held κs a x s e w p = unequal (ap refusal_in (sym w ∙ (p ∙ (λ i. refused_by (first (rules.down_4 (e.1 i) ∷ (6, rules.holding (mode (e.0 i))) ∷ [])))))) refl

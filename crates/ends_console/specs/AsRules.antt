@@ -1,26 +1,19 @@
 -- What the console's values mean in the rules, whose messages have one value here: the message stands beside. Assumes nothing.
-use Rattle.std.specs.Prelude.{Bool, true, [], ◌∷◌, eqb}
-use Rattle.ground.specs.Choice.{when◌then◌else◌}
-use Rattle.ground.specs.First.{first}
+use Rattle.std.specs.Prelude.{ℕ, Bool, true, Option, None, Some, option_map}
+use Rattle.std.proofs.Math.Option as maybe
+use Rattle.ground.specs.Options.{option_back}
 use Rattle.wire.specs.declared.J.{J}
 use Rattle.rules.specs.Ends as rules
 use Rattle.rules.specs.Offered.{Offer, unmoved}
 use Rattle.rules.specs.Supply.{numbering, Numbers}
 use Rattle.letters.specs.declared.ConsoleAsk.{ConsoleAsk}
 use Rattle.letters.specs.declared.ConsoleAsk.TheVariants as ask
-use Rattle.numbers.specs.declared.Move.TheVariants.{Stay}
-use Rattle.numbers.specs.Numbers.{numbers_means, numbers_back, number_or0, given, took, move_back}
-use Rattle.ends.specs.AsRules.{Beside, for_console, for_controller, for_controller_back, report_back}
-use Rattle.ends.specs.declared.ForConsole.{ForConsole}
-use Rattle.ends.specs.declared.ForController.{ForController}
-use Rattle.ends.specs.declared.ForController.TheVariants.{Nothing}
-use Rattle.ends.specs.declared.Report.TheVariants as report
+use Rattle.numbers.specs.Numbers.{numbers_means, numbers_back, took, move_back}
+use Rattle.ends.specs.AsRules.{Beside, for_console, for_controller_back, report_back}
+use Rattle.ends.specs.declared.ToConsole.{ToConsole}
 use Rattle.ends_console.specs.declared.Mode.{Mode}
 use Rattle.ends_console.specs.declared.Mode.TheVariants.{Idle, NeedI, Send}
-use Rattle.ends_console.specs.declared.Turn.{Turn}
-use Rattle.ends_console.specs.declared.End.{End}
-use Rattle.ends_console.specs.declared.Acted.{Acted}
-use Rattle.ends_console.specs.declared.decides.Decided.{Decided}
+use Rattle.ends_console.specs.Types.{Turn, End, Acted, Decided}
 
 abbrev pub mode : Mode → rules.ConsoleMode Beside
 mode Idle = rules.ConsoleMode.idle
@@ -40,11 +33,15 @@ turn t =
 
 -- ## Its decision: the rules' step with a number on offer
 
-abbrev pub on_offer : Mode → Bool → J → rules.Console Offer Beside
-on_offer now up next =
-    record { numbers = record { next = given next.0; known = true; move = unmoved }; mode = mode now; up = up }
+abbrev pub given : Option J → maybe.Option ℕ
+given None = maybe.none
+given (Some j) = maybe.some j.0
 
-abbrev pub asked_to : ConsoleAsk → ForConsole → rules.ConsoleAct Beside
+abbrev pub on_offer : Mode → Bool → Option J → rules.Console Offer Beside
+on_offer now up next =
+    record { numbers = record { next = given next; known = true; move = unmoved }; mode = mode now; up = up }
+
+abbrev pub asked_to : ConsoleAsk → Option ToConsole → rules.ConsoleAct Beside
 asked_to ask.Put p = rules.put tt
 asked_to ask.SendNeedI p = rules.send_need_i
 asked_to ask.SendData p = rules.send_data
@@ -63,21 +60,14 @@ decided d =
       up = d.after.up;
     }
 
--- Q and D, which would send this
-unfoldable pub sends : Mode → Bool → ForController → Decided
-sends now up sent =
-    let n = first (rules.down_4 up ∷ rules.mode_6 (for_controller sent) ∷ []) in
-    when eqb n 0 then record { report = report.Nothing; sent = sent; numbers = Stay; mode = now; up = up }
-    else record { report = report.Refused n; sent = Nothing; numbers = Stay; mode = now; up = up }
-
 -- ## With its own numbers
 
 abbrev pub end : End → rules.Console Numbers Beside
 end e = record { numbers = numbers_means e.numbers; mode = mode e.mode; up = e.up }
 
--- 0: they are spent
-abbrev pub next_of : End → J
-next_of e = record { 0 = number_or0 (numbering.next (numbers_means e.numbers)) }
+-- none: they are spent
+abbrev pub next_of : End → Option J
+next_of e = option_map (λ n. record { 0 = n }) (option_back (numbering.next (numbers_means e.numbers)))
 
 abbrev pub acted : rules.ConsoleActed Numbers Beside → Acted
 acted d =

@@ -1,5 +1,5 @@
 -- The fields of a console: when they are well formed, and the end that they stand for. Assumes nothing.
-use Rattle.std.specs.Prelude.{ℕ, Bool, true, false, not, ◌&&◌, List, eqb}
+use Rattle.std.specs.Prelude.{ℕ, Bool, true, false, not, ◌&&◌, List, eqb, Option, None, Some}
 use Rattle.ground.specs.Cell.{is_message, spaces}
 use Rattle.ground.specs.Every.{filled}
 use Rattle.ground.specs.Choice.{when◌then◌else◌}
@@ -10,12 +10,8 @@ use Rattle.numbers.specs.Numbers.{numbers_means, numbers_kept, numbers_fresh}
 use Rattle.numbers.specs.declared.Numbers.{Numbers}
 use Rattle.ends_console.specs.declared.Mode.{Mode}
 use Rattle.ends_console.specs.declared.Mode.TheVariants.{NeedI, Send}
-use Rattle.ends_console.specs.declared.End.{End}
+use Rattle.ends_console.specs.Types.{End}
 use Rattle.ends_console.specs.declared.fields.Console.{Console}
-use Rattle.ends_console.specs.declared.fields.ConsoleRead.{ConsoleRead}
-use Rattle.ends_console.specs.declared.fields.ConsoleRead.TheVariants as console-read
-use Rattle.ends_console.specs.declared.fields.ModeRead.{ModeRead}
-use Rattle.ends_console.specs.declared.fields.ModeRead.TheVariants as mode-read
 
 -- What the variables say by themselves, wherever the numbers come from: with a message held, 16 cells, exactly one of j and last is not 0; with none both are 0 and the
 -- message is 16 spaces
@@ -29,9 +25,9 @@ variables_fit held message j last =
 abbrev pub variables_mode : Bool → J → I → Mode
 variables_mode held j last = when held then (when eqb j.0 0 then Send last else NeedI j) else Mode.Idle
 
-unfoldable pub mode_read : Bool → List ℕ → J → I → ModeRead
+unfoldable pub mode_read : Bool → List ℕ → J → I → Option Mode
 mode_read held message j last =
-    when variables_fit held message j last then mode-read.Is (variables_mode held j last) else mode-read.IllFormed
+    when variables_fit held message j last then Some (variables_mode held j last) else None
 
 -- j is not set, or one of its own numbers
 abbrev pub own_or_none : Numbers → J → Bool
@@ -49,13 +45,13 @@ console_mode c = variables_mode c.held c.j c.last
 abbrev pub console_end : Console → End
 console_end c = record { numbers = c.numbers; mode = console_mode c; up = c.up }
 
-unfoldable pub console_read : Console → ConsoleRead
-console_read c = when console_ok c then console-read.Is (console_end c) else console-read.IllFormed
+unfoldable pub console_read : Console → Option End
+console_read c = when console_ok c then Some (console_end c) else None
 
 -- document 01's number of each case
-abbrev pub console_read_refusal : ConsoleRead → ℕ
-console_read_refusal console-read.IllFormed = 2
-console_read_refusal (console-read.Is e) = 0
+abbrev pub console_read_refusal : Option End → ℕ
+console_read_refusal None = 2
+console_read_refusal (Some e) = 0
 
 abbrev pub console_with : Numbers → Mode → Bool → Bool → List ℕ → Console
 console_with numbers Mode.Idle up ack m =

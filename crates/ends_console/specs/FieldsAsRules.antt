@@ -10,7 +10,7 @@ use Rattle.ends.specs.AsRules.{Beside}
 use Rattle.ends_console.specs.AsRules as console
 use Rattle.ends_console.specs.Fields.{console_end, console_with}
 use Rattle.ends_console.specs.declared.Mode.TheVariants as mode
-use Rattle.ends_console.specs.declared.End.{End}
+use Rattle.ends_console.specs.Types.{End}
 use Rattle.ends_console.specs.declared.fields.Console.{Console}
 
 -- the held message stands in the mode

@@ -2,3 +2,4 @@ pub mod Ack
 pub mod AsRules
 pub mod Fields
 pub mod FieldsAsRules
+pub mod Types

@@ -26,13 +26,9 @@ pub fn ack_use(ask: ConsoleAsk) -> AckUse
     ensures { result ≡ ack_use ask }
 {
     match ask {
-        ConsoleAsk::Put => AckUse::Leaves,
-        ConsoleAsk::SendNeedI => AckUse::Leaves,
-        ConsoleAsk::SendData => AckUse::Leaves,
-        ConsoleAsk::Take => AckUse::Leaves,
-        ConsoleAsk::GoDown => AckUse::Leaves,
         ConsoleAsk::ComeBack => AckUse::Clears,
         ConsoleAsk::TellAck => AckUse::Tells,
+        _ => AckUse::Leaves,
     }
 }
 
@@ -42,47 +38,24 @@ fn tells(ack: bool) -> Report
     if ack { Report::Ok } else { Report::Lost }
 }
 
-// Where nothing arrives.
-fn quiet(u: AckUse, ack: bool) -> Shown
-    ensures { result ≡ acked (use_means u) ack Report.Nothing }
-{
-    match u {
-        AckUse::Leaves => Shown {
-            report: Report::Nothing,
-            ack,
-        },
-        AckUse::Clears => Shown {
-            report: Report::Nothing,
-            ack: false,
-        },
-        AckUse::Tells => Shown {
-            report: tells(ack),
-            ack: false,
-        },
-    }
-}
-
 // From what a step reports in the history.
+#[tactic(auto, unfolding(crate::specs::Ack::acked, rules::specs::Reading::said, rules::specs::Reading::ack_after))]
 pub fn shows(u: AckUse, ack: bool, report: Report) -> Shown
     ensures { result ≡ acked (use_means u) ack report }
 {
-    match report {
-        Report::Nothing => quiet(u, ack),
-        Report::Delivered => Shown {
-            report: Report::Delivered,
-            ack,
-        },
-        Report::Ok => Shown {
+    match (report, u) {
+        (Report::Ok, _) => Shown {
             report: Report::Nothing,
             ack: true,
         },
-        Report::Lost => Shown {
+        (Report::Lost, _) | (Report::Nothing, AckUse::Clears) => Shown {
             report: Report::Nothing,
             ack: false,
         },
-        Report::Refused(n) => Shown {
-            report: Report::Refused(n),
-            ack,
+        (Report::Nothing, AckUse::Tells) => Shown {
+            report: tells(ack),
+            ack: false,
         },
+        _ => Shown { report, ack },
     }
 }

@@ -1,93 +1,57 @@
 // The thin layer over what a console does: the number that is next comes from its own numbers, and they are moved.
 ghost use Rattle.std.specs.Prelude.{◌≡◌};
 ghost use Rattle.ground.specs.First.{refusal};
+ghost use Rattle.ground.specs.Refusals.{refused_by};
 ghost use Rattle.rules.specs.Supply.{numbering};
 ghost use Rattle.rules.specs.Ends.{console_acts, console_rules, put, ConsoleAct};
-ghost use Rattle.numbers.specs.Numbers.{numbers_moved};
 ghost use Rattle.ends.specs.AsRules.{tested, for_console};
 ghost use Rattle.ends_console.specs.AsRules.{end, next_of, acted};
 
-use crate::{Acted, End, Mode, Turn, refusals, turns};
-use ends::{ForConsole, ForController, Report};
+use crate::{Acted, End, Mode, refusals, turns};
+use ends::ToConsole;
+use ground::Refusal;
 use wire::J;
 
-fn moved(e: End, t: Turn) -> Acted
-    ensures { result ≡ record { report = t.report; sent = t.sent; after = record { numbers = numbers_moved t.numbers e.numbers; mode = t.mode; up = e.up } } }
-{
-    let now = e.numbers;
-    let step = t.numbers;
-    let report = t.report;
-    let sent = t.sent;
-    let mode = t.mode;
-    Acted {
-        report,
-        sent,
-        after: End {
-            numbers: numbers::after(now, step),
-            mode,
-            up: e.up,
-        },
-    }
-}
-
-fn next_of(e: End) -> J
+// A J; a controller's is an I.
+fn next_of(e: End) -> Option<J>
     ensures { result ≡ next_of e }
 {
-    let now = e.numbers;
-    J(numbers::next(now))
+    e.numbers.next().map(J)
 }
 
 // P that is not refused.
 pub fn puts(e: End) -> Acted
     ensures { result ≡ acted (console_acts numbering (end e) (put tt)) }
 {
-    let mode = e.mode;
-    let turn = turns::puts(mode, next_of(e));
-    moved(e, turn)
+    e.moved(turns::puts(e.mode, next_of(e)))
 }
 
 // S, by kind.
-pub fn takes_what_came(e: End, came: ForConsole) -> Acted
+pub fn takes_what_came(e: End, came: Option<ToConsole>) -> Acted
     ensures { result ≡ acted (console_acts numbering (end e) (ConsoleAct.take (for_console came))) }
 {
-    let mode = e.mode;
-    let turn = turns::takes_what_came(mode, came);
-    moved(e, turn)
+    e.moved(turns::takes_what_came(e.mode, came))
 }
 
 // C.
+#[tactic(auto, unfolding(rules::specs::Ends::console_acts, rules::specs::Ends::console_turn, rules::specs::Ends::end_after, rules::specs::Ends::numbers_after, rules::specs::Ends::up_after))]
 pub fn goes_down(e: End) -> Acted
     ensures { result ≡ acted (console_acts numbering (end e) ConsoleAct.go_down) }
 {
-    let mut after = e;
-    after.up = false;
-    Acted {
-        report: Report::Nothing,
-        sent: ForController::Nothing,
-        after,
-    }
+    e.goes_down()
 }
 
 // V.
+#[tactic(auto, unfolding(rules::specs::Ends::console_acts, rules::specs::Ends::console_turn, rules::specs::Ends::end_after, rules::specs::Ends::numbers_after, rules::specs::Ends::up_after))]
 pub fn comes_back(e: End) -> Acted
     ensures { result ≡ acted (console_acts numbering (end e) ConsoleAct.come_back) }
 {
-    let now = e.numbers;
-    Acted {
-        report: Report::Nothing,
-        sent: ForController::Nothing,
-        after: End {
-            numbers: numbers::back(now),
-            mode: Mode::Idle,
-            up: true,
-        },
-    }
+    e.comes_back(Mode::Idle)
 }
 
-// The first refusal of P, or 0; `good` says that the message put is 16 cells.
-pub fn put_refusal(e: End, good: bool) -> u8
-    ensures { result ≡ refusal (console_rules numbering (tested good) (end e) (put tt)) }
+// The first refusal of P; `good` says that the message put is 16 cells.
+pub fn put_refusal(e: End, good: bool) -> Result<(), Refusal>
+    ensures { result ≡ refused_by (refusal (console_rules numbering (tested good) (end e) (put tt))) }
 {
-    let mode = e.mode;
-    refusals::put_refusal(mode, e.up, good, next_of(e))
+    refusals::put_refusal(e.mode, e.up, good, next_of(e))
 }

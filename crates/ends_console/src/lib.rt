@@ -10,8 +10,7 @@ pub mod fields;
 pub mod refusals;
 pub mod turns;
 
-use ends::{ForController, Report};
-use numbers::{Move, Numbers};
+use ends::ToController;
 use wire::{I, J};
 
 // The mode, with the number that is set in it.
@@ -22,26 +21,10 @@ pub enum Mode {
     Send(I),
 }
 
-// What it does: what becomes of its numbers, its mode then, what it reports and sends.
-#[derive(Clone, Copy)]
-pub struct Turn {
-    pub numbers: Move,
-    pub mode: Mode,
-    pub report: Report,
-    pub sent: ForController,
-}
+pub type Turn = ends::Turn<Mode, ToController>;
 
-// A well-formed console without its message and its ack.
-#[derive(Clone, Copy)]
-pub struct End {
-    pub numbers: Numbers,
-    pub mode: Mode,
-    pub up: bool,
-}
+pub type End = ends::End<Mode>;
 
-#[derive(Clone, Copy)]
-pub struct Acted {
-    pub report: Report,
-    pub sent: ForController,
-    pub after: End,
-}
+pub type Acted = ends::Acted<Mode, ToController>;
+
+pub type Decided = ends::Decided<Mode, ToController>;

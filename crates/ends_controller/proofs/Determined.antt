@@ -5,8 +5,6 @@ use Rattle.ends_controller.proofs.turns.offer_sent.Kinds as offer-sent-kinds
 use Rattle.ends_controller.proofs.turns.offer_sent.Reads as offer-sent
 use Rattle.ends_controller.proofs.turns.ok_sent.Kinds as ok-sent-kinds
 use Rattle.ends_controller.proofs.turns.ok_sent.Reads as ok-sent
-use Rattle.ends_controller.proofs.refusals.send_refusal.Kinds as send-refusal-kinds
-use Rattle.ends_controller.proofs.refusals.send_refusal.Reads as send-refusal
 use Rattle.ends_controller.proofs.decides.decides.Kinds as decides-kinds
 use Rattle.ends_controller.proofs.decides.decides.Reads as decides
 use Rattle.ends_controller.proofs.acts.takes_what_came.Kinds as takes-what-came-kinds
@@ -33,9 +31,6 @@ offer_sent_determined κs a x y s t p q = p ∙ sym q
 
 pub ok_sent_determined : Determined ok-sent-kinds.ps ok-sent-kinds.r ok-sent.Post
 ok_sent_determined κs a x y s t p q = p ∙ sym q
-
-pub send_refusal_determined : Determined send-refusal-kinds.ps send-refusal-kinds.r send-refusal.Post
-send_refusal_determined κs a x y s t p q = p ∙ sym q
 
 pub decides_determined : Determined decides-kinds.ps decides-kinds.r decides.Post
 decides_determined κs a x y s t p q = p ∙ sym q

@@ -3,23 +3,21 @@ use Prim.Native.Nat.{ℕ, ◌<◌}
 use mathlib.Core.Path.{◌≡◌, refl, sym, ap, subst, ◌∙◌}
 use mathlib.Core.Bool.{Bool, true, false, not, ◌&&◌}
 use native.Mathlib.Omega.{arith}
-use borrow.Author.Tests.{ne_eqb, not-true, not-false, eqb-true, eqb-false}
+use borrow.Author.Tests.{ne_eqb, not-true, eqb-true, eqb-false}
 use lib.Dec.{eqb}
+use Rattle.std.specs.Prelude.{Option, None, Some}
+use Rattle.ground.proofs.Options.{none_is_not_some, some_is_one}
 use Rattle.ground.proofs.Tests.{by_test, and_left, and_right}
-use Rattle.ground.specs.Choice.{when◌then◌else◌}
+use Rattle.ground.specs.Choice.{chosen}
 use Rattle.wire.specs.declared.I.{I}
 use Rattle.rules.specs.Supply.{numbering}
 use Rattle.numbers.specs.Numbers.{numbers_means}
 use Rattle.numbers.specs.declared.Numbers.{Numbers}
 use Rattle.wire.specs.declared.J.{J}
-use Rattle.ends_controller.specs.declared.End.{End}
+use Rattle.ends_controller.specs.Types.{End}
 use Rattle.ends_controller.specs.declared.Mode.{Mode}
 use Rattle.ends_controller.specs.declared.Mode.TheVariants.{Idle, Accept, Ack}
 use Rattle.ends_controller.specs.declared.fields.Controller.{Controller}
-use Rattle.ends_controller.specs.declared.fields.ControllerRead.{ControllerRead}
-use Rattle.ends_controller.specs.declared.fields.ControllerRead.TheVariants.{IllFormed, Is}
-use Rattle.ends_controller.specs.declared.fields.ModeRead.{ModeRead}
-use Rattle.ends_controller.specs.declared.fields.ModeRead.TheVariants as mode-read
 use Rattle.ends.specs.AsRules.{end_refusal}
 use Rattle.ends_controller.specs.Fields.{variables_fit, variables_mode, mode_read, own_or_none, controller_read_refusal, controller_ok, controller_mode, controller_end, controller_read, controller_with, controller_fields}
 
@@ -27,97 +25,48 @@ use Rattle.ends_controller.specs.Fields.{variables_fit, variables_mode, mode_rea
 abbrev pub Sound : Numbers → Type 0
 Sound u = numbering.sound (numbers_means u) ≡ true
 
--- ## The variables
-
--- with i set
-module _ (j : J) (i l : I) {o p : Bool} (it : o ≡ eqb i.0 0) (set : o ≡ false) (jt : p ≡ eqb j.0 0) where
-  pub no_j : p ≡ true → mode-read.IllFormed ≡ mode_read j i l
-  unfolding mode_read when◌then◌else◌
-  no_j y = rw (← it, set, ← jt, y)
-
-  module _ {q : Bool} (n : p ≡ false) (lt : q ≡ eqb l.0 0) where
-    pub both : not q ≡ true → mode-read.IllFormed ≡ mode_read j i l
-    unfolding mode_read when◌then◌else◌
-    both s = rw (← it, set, ← jt, n, ← lt, not-true q s)
-
-    pub in_accept : not q ≡ false → mode-read.Is (Accept j i) ≡ mode_read j i l
-    unfolding mode_read when◌then◌else◌
-    in_accept z = rw (← it, set, ← jt, n, ← lt, not-false q z)
-
--- with none
-module _ (j : J) (i l : I) {o p : Bool} (it : o ≡ eqb i.0 0) (none : o ≡ true) (jt : p ≡ eqb j.0 0) where
-  pub only_j : not p ≡ true → mode-read.IllFormed ≡ mode_read j i l
-  unfolding mode_read when◌then◌else◌
-  only_j s = rw (← it, none, ← jt, not-true p s)
-
-  module _ {q : Bool} (y : not p ≡ false) (lt : q ≡ eqb l.0 0) where
-    pub is_idle : q ≡ true → mode-read.Is Idle ≡ mode_read j i l
-    unfolding mode_read when◌then◌else◌
-    is_idle z = rw (← it, none, ← jt, not-false p y, ← lt, z)
-
-    pub in_ack : q ≡ false → mode-read.Is (Ack l) ≡ mode_read j i l
-    unfolding mode_read when◌then◌else◌
-    in_ack n = rw (← it, none, ← jt, not-false p y, ← lt, n)
-
-pub ruleset modes = (no_j, both, in_accept, only_j, is_idle, in_ack)
-
--- ## A number of its own
-
-module _ (u : Numbers) (i : I) {p : Bool} (it : p ≡ eqb i.0 0) where
-  pub none_set : p ≡ true → true ≡ own_or_none u i
-  unfolding when◌then◌else◌
-  none_set y = rw (← it, y)
-
-  pub set_used : {o : Bool} → p ≡ false → o ≡ numbering.used (numbers_means u) i.0 → o ≡ own_or_none u i
-  unfolding when◌then◌else◌
-  set_used n h = rw (← it, n) h
-
 -- ## The whole: numbers that are sound, variables that fit, numbers of its own
 
 abbrev fit : Controller → Bool
 fit c = variables_fit c.j c.i c.last
 
 -- what the variables that were read are
-fitting : (j : J) (i l : I) {k : Mode} → mode-read.Is k ≡ mode_read j i l → (variables_fit j i l ≡ true) × (k ≡ variables_mode j i l)
-unfolding mode_read when◌then◌else◌
+fitting : (j : J) (i l : I) {k : Mode} → Some k ≡ mode_read j i l → (variables_fit j i l ≡ true) × (k ≡ variables_mode j i l)
+unfolding mode_read chosen
 fitting j i l {k} h =
     by_test (variables_fit j i l)
-    (λ t. let q : mode-read.Is k ≡ mode-read.Is (variables_mode j i l) = rw t at h in (t, cc))
-    (λ f. let q : mode-read.Is k ≡ mode-read.IllFormed = rw f at h in let z : ◌≡◌ {A = ℕ} 1 0 = cc in absurd (omega (arith, z)))
+    (λ t. (t, some_is_one k (variables_mode j i l) (rw t at h)))
+    (λ f. absurd (none_is_not_some k (sym (rw f at h))))
 
-misfit : (j : J) (i l : I) → mode-read.IllFormed ≡ mode_read j i l → variables_fit j i l ≡ false
-unfolding mode_read when◌then◌else◌
-misfit j i l h =
-    by_test (variables_fit j i l)
-    (λ t. let q : mode-read.IllFormed ≡ mode-read.Is (variables_mode j i l) = rw t at h in let z : ◌≡◌ {A = ℕ} 0 1 = cc in absurd (omega (arith, z)))
-    (λ f. f)
+misfit : (j : J) (i l : I) → None ≡ mode_read j i l → variables_fit j i l ≡ false
+unfolding mode_read chosen
+misfit j i l h = by_test (variables_fit j i l) (λ t. absurd (none_is_not_some (variables_mode j i l) (rw t at h))) (λ f. f)
 
-pub unsound : {s : Bool} (c : Controller) → s ≡ numbering.sound (numbers_means c.numbers) → not s ≡ true → IllFormed ≡ controller_read c
-unfolding controller_read controller_ok when◌then◌else◌
-unsound {s} c e n = rw (← e, not-true s n)
+pub unsound : {s : Bool} (c : Controller) → s ≡ numbering.sound (numbers_means c.numbers) → s ≡ false → None ≡ controller_read c
+unfolding controller_read controller_ok chosen
+unsound c e n = rw (← e, n)
 
-module _ {s : Bool} {x : ModeRead} (c : Controller) (e : s ≡ numbering.sound (numbers_means c.numbers)) (n : not s ≡ false)
-    (read : x ≡ mode_read c.j c.i c.last) where
-  pub unfit : x ≡ mode-read.IllFormed → IllFormed ≡ controller_read c
-  unfolding controller_read controller_ok when◌then◌else◌
-  unfit h = rw (← e, not-false s n, misfit c.j c.i c.last (sym h ∙ read))
+module _ {s : Bool} (c : Controller) (e : s ≡ numbering.sound (numbers_means c.numbers)) (n : s ≡ true) where
+  pub unfit : None ≡ mode_read c.j c.i c.last → None ≡ controller_read c
+  unfolding controller_read controller_ok chosen
+  unfit h = rw (← e, n, misfit c.j c.i c.last h)
 
-  module _ {o : Bool} {k : Mode} (h : x ≡ mode-read.Is k) (t : o ≡ own_or_none c.numbers c.i) where
+  module _ {o : Bool} {k : Mode} (h : Some k ≡ mode_read c.j c.i c.last) (t : o ≡ own_or_none c.numbers c.i) where
     fits : (fit c ≡ true) × (k ≡ variables_mode c.j c.i c.last)
-    fits = fitting c.j c.i c.last (sym h ∙ read)
+    fits = fitting c.j c.i c.last h
 
-    pub i_not_its_own : not o ≡ true → IllFormed ≡ controller_read c
-    unfolding controller_read controller_ok when◌then◌else◌
-    i_not_its_own f = rw (← e, not-false s n, fits.0, ← t, not-true o f)
+    pub i_not_its_own : o ≡ false → None ≡ controller_read c
+    unfolding controller_read controller_ok chosen
+    i_not_its_own f = rw (← e, n, fits.0, ← t, f)
 
-    module _ {v : Bool} (f : not o ≡ false) (w : v ≡ own_or_none c.numbers c.last) where
-      pub last_not_its_own : not v ≡ true → IllFormed ≡ controller_read c
-      unfolding controller_read controller_ok when◌then◌else◌
-      last_not_its_own g = rw (← e, not-false s n, fits.0, ← t, not-false o f, ← w, not-true v g)
+    module _ {v : Bool} (f : o ≡ true) (w : v ≡ own_or_none c.numbers c.last) where
+      pub last_not_its_own : v ≡ false → None ≡ controller_read c
+      unfolding controller_read controller_ok chosen
+      last_not_its_own g = rw (← e, n, fits.0, ← t, f, ← w, g)
 
-      pub well : not v ≡ false → Is (record { numbers = c.numbers; mode = k; up = c.up }) ≡ controller_read c
-      unfolding controller_read controller_ok controller_mode when◌then◌else◌
-      well g = rw (← e, not-false s n, fits.0, ← t, not-false o f, ← w, not-false v g, fits.1)
+      pub well : v ≡ true → Some (record { numbers = c.numbers; mode = k; up = c.up }) ≡ controller_read c
+      unfolding controller_read controller_ok controller_mode chosen
+      well g = rw (← e, n, fits.0, ← t, f, ← w, g, fits.1)
 
 pub ruleset whole = (unsound, unfit, i_not_its_own, last_not_its_own, well)
 
@@ -148,11 +97,11 @@ abbrev none_i : I
 none_i = record { 0 = 0 }
 
 no_i : (j : J) (i l : I) → variables_fit j i l ≡ true → eqb i.0 0 ≡ true → j.0 ≡ 0
-unfolding when◌then◌else◌
+unfolding chosen
 no_i j i l p t = let q : eqb j.0 0 ≡ true = rw t at p in eqb-true j.0 0 q
 
 with_i : (j : J) (i l : I) → variables_fit j i l ≡ true → eqb i.0 0 ≡ false → (0 < j.0) × (l.0 ≡ 0)
-unfolding when◌then◌else◌
+unfolding chosen
 with_i j i l p f =
     let q : (not (eqb j.0 0) && eqb l.0 0) ≡ true = rw f at p in
     (above_0 j.0 (not-true (eqb j.0 0) (and_left (not (eqb j.0 0)) (eqb l.0 0) q)), eqb-true l.0 0 (and_right (not (eqb j.0 0)) (eqb l.0 0) q))
@@ -176,7 +125,7 @@ by_variables P idle accept ack j i l ok =
     subst (λ (n : ℕ). P j i (record { 0 = n })) (sym w.1) (accept j i w.0 (above_0 i.0 f)))
 
 set_own : (u : Numbers) (i : I) → 0 < i.0 → own_or_none u i ≡ true → its_own u i ≡ true
-unfolding when◌then◌else◌
+unfolding chosen
 set_own u i h o = rw (ne_eqb i.0 0 (omega (arith, h))) at o
 
 -- by the mode that the fields stand for
@@ -200,38 +149,37 @@ abbrev Same : Controller → Type 0
 Same c = controller_fields (controller_end c) ≡ c
 
 idle_same : (u : Numbers) (up : Bool) → Sound u → Same (controller_with u Idle up)
-unfolding controller_mode when◌then◌else◌
+unfolding controller_mode chosen
 idle_same u up s = refl
 
 accept_same : (u : Numbers) (j : J) (i : I) (up : Bool) → Sound u → 0 < j.0 → 0 < i.0 → its_own u i ≡ true → Same (controller_with u (Accept j i) up)
-unfolding controller_mode when◌then◌else◌
+unfolding controller_mode chosen
 accept_same u j i up s h k o = rw (ne_eqb i.0 0 (omega arith))
 
 ack_same : (u : Numbers) (l : I) (up : Bool) → Sound u → 0 < l.0 → its_own u l ≡ true → Same (controller_with u (Ack l) up)
-unfolding controller_mode when◌then◌else◌
+unfolding controller_mode chosen
 ack_same u l up s h o = rw (ne_eqb l.0 0 (omega arith))
 
 pub fields_back : (c : Controller) → controller_ok c ≡ true → Same c
 fields_back c ok = by_mode Same idle_same accept_same ack_same c ok
 
 -- what a controller that was read is
-pub was_read : (c : Controller) {e : End} → controller_read c ≡ Is e → (controller_ok c ≡ true) × (e ≡ controller_end c)
-unfolding controller_read when◌then◌else◌
+pub was_read : (c : Controller) {e : End} → controller_read c ≡ Some e → (controller_ok c ≡ true) × (e ≡ controller_end c)
+unfolding controller_read chosen
 was_read c {e} h =
     by_test (controller_ok c)
-    (λ t. let q : Is (controller_end c) ≡ Is e = rw t at h in (t, cc))
-    (λ f. let q : IllFormed ≡ Is e = rw f at h in let z : ◌≡◌ {A = ℕ} 0 1 = cc in absurd (omega (arith, z)))
+    (λ t. (t, sym (some_is_one (controller_end c) e (rw t at h))))
+    (λ f. absurd (none_is_not_some e (rw f at h)))
 
-pub not_read : (c : Controller) → controller_read c ≡ IllFormed → controller_ok c ≡ false
-unfolding controller_read when◌then◌else◌
-not_read c h =
-    by_test (controller_ok c) (λ t. let q : Is (controller_end c) ≡ IllFormed = rw t at h in let z : ◌≡◌ {A = ℕ} 1 0 = cc in absurd (omega (arith, z))) (λ f. f)
+pub not_read : (c : Controller) → controller_read c ≡ None → controller_ok c ≡ false
+unfolding controller_read chosen
+not_read c h = by_test (controller_ok c) (λ t. absurd (none_is_not_some (controller_end c) (sym (rw t at h)))) (λ f. f)
 
-pub numbered : {read : ControllerRead} (c : Controller) → read ≡ controller_read c → (read ≡ controller_read c) × (controller_read_refusal read ≡ end_refusal (controller_ok c))
-unfolding controller_read when◌then◌else◌
+pub numbered : {read : Option End} (c : Controller) → read ≡ controller_read c → (read ≡ controller_read c) × (controller_read_refusal read ≡ end_refusal (controller_ok c))
+unfolding controller_read chosen
 numbered c f = (f, ap controller_read_refusal f ∙ by_test (controller_ok c) (λ t. rw t) (λ f. rw f))
 
 -- an idle controller whose numbers are sound is well formed
 pub idle_ok : (u : Numbers) (up : Bool) → Sound u → controller_ok (controller_with u Idle up) ≡ true
-unfolding controller_ok when◌then◌else◌
+unfolding controller_ok chosen
 idle_ok u up s = rw s

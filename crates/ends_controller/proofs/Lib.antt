@@ -4,7 +4,6 @@ pub mod Determined
 pub mod FieldsAsRules
 pub mod FieldsRead
 pub mod MessageBeside
-pub mod PacketTaken
 pub mod WellFormed
 pub mod Wrong
 pub mod WrongDecisions

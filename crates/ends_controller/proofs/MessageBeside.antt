@@ -5,7 +5,7 @@ use mathlib.Core.Bool.{Bool}
 use mathlib.Core.Option.{Option, none, some, map}
 use mathlib.Core.List.{List, [], ◌∷◌}
 use borrow.Author.Tests.{ne_eqb, eq-eqb}
-use Rattle.ground.specs.Choice.{when◌then◌else◌}
+use Rattle.ground.specs.Choice.{chosen}
 use Rattle.ground.specs.First.{refusal}
 use Rattle.rules.specs.Supply.{Supply}
 use Rattle.rules.specs.Ends as rules
@@ -39,7 +39,7 @@ module _ {S : Type 0} (U : Supply S) where
 
   -- a refusal leaves the end
   beside_refused : (e : rules.Controller S) (a : rules.ControllerAct Beside) → (refusal_of e a ≡ 0 → ⊥) → rules.controller_step U e a ≡ record { report = rules.refused (refusal_of e a); sent = none; after = e }
-  unfolding rules.controller_step when◌then◌else◌
+  unfolding rules.controller_step chosen
   beside_refused e a n = rw (ne_eqb (refusal_of e a) 0 n)
 
   pub step_refused : (e : rules.Controller S) (a : rules.ControllerAct Beside) (m : List ℕ) → (refusal_of e a ≡ 0 → ⊥) → stepped e a m ≡ record { report = rules.refused (refusal_of e a); sent = none; after = e }
@@ -48,7 +48,7 @@ module _ {S : Type 0} (U : Supply S) where
       ∙ ap (λ (d : rules.ControllerActed S Beside). in_controller_acted (λ _. m) d) (beside_refused e a n)
 
   beside_done : (e : rules.Controller S) (a : rules.ControllerAct Beside) → refusal_of e a ≡ 0 → rules.controller_step U e a ≡ rules.controller_acts U e a
-  unfolding rules.controller_step when◌then◌else◌
+  unfolding rules.controller_step chosen
   beside_done e a z = rw (eq-eqb (refusal_of e a) 0 z)
 
   pub step_done : (e : rules.Controller S) (a : rules.ControllerAct Beside) (m : List ℕ) → refusal_of e a ≡ 0 → stepped e a m ≡ rules.controller_acts U e (in_controller_act (λ _. m) a)

@@ -4,7 +4,7 @@ use mathlib.Core.Path.{◌≡◌, refl}
 use mathlib.Core.Bool.{Bool, true}
 use native.Mathlib.Omega.{arith}
 use borrow.Author.Tests.{ne_eqb}
-use Rattle.ground.specs.Choice.{when◌then◌else◌}
+use Rattle.ground.specs.Choice.{chosen}
 use Rattle.wire.specs.declared.I.{I}
 use Rattle.wire.specs.declared.J.{J}
 use Rattle.rules.specs.Supply as supply
@@ -27,16 +27,16 @@ abbrev Meant : Controller → Type 0
 Meant c = c.j.0 < 2 ^ 32 → ControllerOk numbering (controller_means c)
 
 idle_meant : (u : Numbers) (up : Bool) → Sound u → Meant (controller_with u Idle up)
-unfolding controller_mode when◌then◌else◌
+unfolding controller_mode chosen
 idle_meant u up s b = record { numbers = s; mode = tt }
 
 accept_meant : (u : Numbers) (j : J) (i : I) (up : Bool) → Sound u → 0 < j.0 → 0 < i.0 → its_own u i ≡ true → Meant (controller_with u (Accept j i) up)
-unfolding controller_mode when◌then◌else◌
+unfolding controller_mode chosen
 accept_meant u j i up s h k o b =
     rw (ne_eqb i.0 0 (omega arith)) (record { numbers = s; mode = (number_is j.0 h b, given_is (numbers_means u) i.0 s k o) })
 
 ack_meant : (u : Numbers) (l : I) (up : Bool) → Sound u → 0 < l.0 → its_own u l ≡ true → Meant (controller_with u (Ack l) up)
-unfolding controller_mode when◌then◌else◌
+unfolding controller_mode chosen
 ack_meant u l up s h o b = rw (ne_eqb l.0 0 (omega arith)) (record { numbers = s; mode = given_is (numbers_means u) l.0 s h o })
 
 pub controller_good : (c : Controller) → controller_ok c ≡ true → c.j.0 < 2 ^ 32 → ControllerOk numbering (controller_means c)
@@ -49,15 +49,15 @@ ControllerStands e = (controller_ok (controller_back e) ≡ true) × (controller
 
 module _ (u : supply.Numbers) (up : Bool) (s : numbering.sound u ≡ true) where
   idle_stands : ControllerStands (record { numbers = u; mode = rules.ControllerMode.idle; up = up })
-  unfolding controller_mode when◌then◌else◌
+  unfolding controller_mode chosen
   idle_stands = (idle_ok (numbers_back u) up s, refl)
 
   accept_stands : (j i : ℕ) → 0 < j → 0 < i → numbering.used u i ≡ true → ControllerStands (record { numbers = u; mode = rules.in_accept j i; up = up })
-  unfolding controller_ok controller_mode when◌then◌else◌
+  unfolding controller_ok controller_mode chosen
   accept_stands j i h k o = rw (s, ne_eqb i 0 (omega (arith, k)), ne_eqb j 0 (omega (arith, h)), o) (refl, refl)
 
   ack_stands : (l : ℕ) → 0 < l → numbering.used u l ≡ true → ControllerStands (record { numbers = u; mode = rules.in_ack l; up = up })
-  unfolding controller_ok controller_mode when◌then◌else◌
+  unfolding controller_ok controller_mode chosen
   ack_stands l h o = rw (s, ne_eqb l 0 (omega (arith, h)), o) (refl, refl)
 
   mode_stands : (k : rules.ControllerMode) → ControllerBears (Number numbering) (Given numbering u) k → ControllerStands (record { numbers = u; mode = k; up = up })

@@ -2,7 +2,7 @@
 use Prim.Native.Nat.{ℕ}
 use mathlib.Core.Path.{◌≡◌, refl, sym, ap, ◌∙◌}
 use mathlib.Core.Bool.{Bool, true, false, true≢false, false≢true}
-use Rattle.ground.specs.Choice.{when◌then◌else◌}
+use Rattle.ground.specs.Choice.{chosen}
 use Rattle.ground.proofs.Promise.{RulesOut, unequal}
 use Rattle.wire.specs.declared.I.{I}
 use Rattle.numbers.specs.Numbers.{numbers_fresh}
@@ -24,19 +24,19 @@ controller_with_fields used j i last up =
     record { numbers = numbers_fresh used; j = record { 0 = j }; i = record { 0 = i }; last = record { 0 = last }; up = up }
 
 pub takes_j_without_i : RulesOut read-controller-kinds.ps read-controller-kinds.r read-controller.Post (λ κs a. a.0 ≡ controller_with_fields 1 1 0 0 true) (λ κs a x s. controller_read_refusal x ≡ 0)
-unfolding controller_ok when◌then◌else◌
+unfolding controller_ok chosen
 takes_j_without_i κs a x s e w p = unequal (sym w ∙ p.1 ∙ ap (λ c. end_refusal (controller_ok c)) e) refl
 
 pub takes_i_and_last : RulesOut read-controller-kinds.ps read-controller-kinds.r read-controller.Post (λ κs a. a.0 ≡ controller_with_fields 1 1 1 1 true) (λ κs a x s. controller_read_refusal x ≡ 0)
-unfolding controller_ok when◌then◌else◌
+unfolding controller_ok chosen
 takes_i_and_last κs a x s e w p = unequal (sym w ∙ p.1 ∙ ap (λ c. end_refusal (controller_ok c)) e) refl
 
 pub takes_i_above_last_used : RulesOut read-controller-kinds.ps read-controller-kinds.r read-controller.Post (λ κs a. a.0 ≡ controller_with_fields 0 1 1 0 true) (λ κs a x s. controller_read_refusal x ≡ 0)
-unfolding controller_ok when◌then◌else◌
+unfolding controller_ok chosen
 takes_i_above_last_used κs a x s e w p = unequal (sym w ∙ p.1 ∙ ap (λ c. end_refusal (controller_ok c)) e) refl
 
 pub takes_last_above_last_used : RulesOut read-controller-kinds.ps read-controller-kinds.r read-controller.Post (λ κs a. a.0 ≡ controller_with_fields 0 0 0 1 true) (λ κs a x s. controller_read_refusal x ≡ 0)
-unfolding controller_ok when◌then◌else◌
+unfolding controller_ok chosen
 takes_last_above_last_used κs a x s e w p = unequal (sym w ∙ p.1 ∙ ap (λ c. end_refusal (controller_ok c)) e) refl
 
 pub leaves_i_in_ack : RulesOut controller-of-kinds.ps controller-of-kinds.r controller-of.Post (λ κs a. a.0 ≡ record { numbers = numbers_fresh 1; mode = controller-mode.Ack (record { 0 = 1 }); up = true }) (λ κs a x s. x.i ≡ x.last)

@@ -1,5 +1,5 @@
 -- The fields of a controller: when they are well formed, and the end that they stand for. Assumes nothing.
-use Rattle.std.specs.Prelude.{ℕ, Bool, true, false, not, ◌&&◌, eqb}
+use Rattle.std.specs.Prelude.{ℕ, Bool, true, false, not, ◌&&◌, eqb, Option, None, Some}
 use Rattle.ground.specs.Choice.{when◌then◌else◌}
 use Rattle.wire.specs.declared.I.{I}
 use Rattle.wire.specs.declared.J.{J}
@@ -8,12 +8,8 @@ use Rattle.numbers.specs.Numbers.{numbers_means, numbers_kept, numbers_fresh}
 use Rattle.numbers.specs.declared.Numbers.{Numbers}
 use Rattle.ends_controller.specs.declared.Mode.TheVariants.{Accept, Ack}
 use Rattle.ends_controller.specs.declared.Mode as controller
-use Rattle.ends_controller.specs.declared.End as controller-end
+use Rattle.ends_controller.specs.Types.{End}
 use Rattle.ends_controller.specs.declared.fields.Controller.{Controller}
-use Rattle.ends_controller.specs.declared.fields.ControllerRead.{ControllerRead}
-use Rattle.ends_controller.specs.declared.fields.ControllerRead.TheVariants as controller-read
-use Rattle.ends_controller.specs.declared.fields.ModeRead.{ModeRead}
-use Rattle.ends_controller.specs.declared.fields.ModeRead.TheVariants as mode-read
 
 -- What the variables say by themselves, wherever the numbers come from: j and i both 0 or neither; i and last are not both set
 abbrev pub variables_fit : J → I → I → Bool
@@ -24,8 +20,8 @@ abbrev pub variables_mode : J → I → I → controller.Mode
 variables_mode j i last =
     when eqb i.0 0 then (when eqb last.0 0 then controller.Mode.Idle else Ack last) else Accept j i
 
-unfoldable pub mode_read : J → I → I → ModeRead
-mode_read j i last = when variables_fit j i last then mode-read.Is (variables_mode j i last) else mode-read.IllFormed
+unfoldable pub mode_read : J → I → I → Option controller.Mode
+mode_read j i last = when variables_fit j i last then Some (variables_mode j i last) else None
 
 -- i or last is not set, or one of its own numbers
 abbrev pub own_or_none : Numbers → I → Bool
@@ -40,16 +36,16 @@ controller_ok c =
 unfoldable pub controller_mode : Controller → controller.Mode
 controller_mode c = variables_mode c.j c.i c.last
 
-abbrev pub controller_end : Controller → controller-end.End
+abbrev pub controller_end : Controller → End
 controller_end c = record { numbers = c.numbers; mode = controller_mode c; up = c.up }
 
-unfoldable pub controller_read : Controller → ControllerRead
-controller_read c = when controller_ok c then controller-read.Is (controller_end c) else controller-read.IllFormed
+unfoldable pub controller_read : Controller → Option End
+controller_read c = when controller_ok c then Some (controller_end c) else None
 
 -- document 01's number of each case
-abbrev pub controller_read_refusal : ControllerRead → ℕ
-controller_read_refusal controller-read.IllFormed = 2
-controller_read_refusal (controller-read.Is e) = 0
+abbrev pub controller_read_refusal : Option End → ℕ
+controller_read_refusal None = 2
+controller_read_refusal (Some e) = 0
 
 abbrev pub controller_with : Numbers → controller.Mode → Bool → Controller
 controller_with numbers controller.Mode.Idle up =
@@ -58,7 +54,7 @@ controller_with numbers (Accept j i) up = record { numbers = numbers; j = j; i =
 controller_with numbers (Ack last) up =
     record { numbers = numbers; j = record { 0 = 0 }; i = record { 0 = 0 }; last = last; up = up }
 
-abbrev pub controller_fields : controller-end.End → Controller
+abbrev pub controller_fields : End → Controller
 controller_fields e = controller_with e.numbers e.mode e.up
 
 -- its numbers as its number record holds them, which a box keeps through a power loss

@@ -7,7 +7,7 @@ use Rattle.numbers.specs.Numbers.{numbers_back}
 use Rattle.ends.specs.AsRules.{Beside}
 use Rattle.ends_controller.specs.AsRules as controller
 use Rattle.ends_controller.specs.Fields.{controller_end, controller_with}
-use Rattle.ends_controller.specs.declared.End.{End}
+use Rattle.ends_controller.specs.Types.{End}
 use Rattle.ends_controller.specs.declared.fields.Controller.{Controller}
 
 abbrev pub controller_means : Controller → rules.Controller Numbers

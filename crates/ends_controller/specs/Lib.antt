@@ -1,3 +1,4 @@
 pub mod AsRules
 pub mod Fields
 pub mod FieldsAsRules
+pub mod Types

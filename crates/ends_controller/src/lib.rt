@@ -1,4 +1,4 @@
-// The controller: what runs in its box. What it does goes by its mode and the number that is next (turns, refusals, decides); a thin layer moves its
+// The controller: what runs in its box. What it does goes by its mode and the number that is next (turns, decides); a thin layer moves its
 // numbers (acts), and its fields are read into its mode and back (fields). The message of the packet in stands beside. No function here is an entry: the
 // crates above call them, and docs/PROMISES.md lists why.
 #![tactic(auto)]
@@ -6,11 +6,9 @@
 pub mod acts;
 pub mod decides;
 pub mod fields;
-pub mod refusals;
 pub mod turns;
 
-use ends::{ForConsole, Report};
-use numbers::{Move, Numbers};
+use ends::ToConsole;
 use wire::{I, J};
 
 // The mode, with the numbers that are set in it.
@@ -21,26 +19,10 @@ pub enum Mode {
     Ack(I),
 }
 
-// What it does: what becomes of its numbers, its mode then, what it reports and sends.
-#[derive(Clone, Copy)]
-pub struct Turn {
-    pub numbers: Move,
-    pub mode: Mode,
-    pub report: Report,
-    pub sent: ForConsole,
-}
+pub type Turn = ends::Turn<Mode, ToConsole>;
 
-// A well-formed controller.
-#[derive(Clone, Copy)]
-pub struct End {
-    pub numbers: Numbers,
-    pub mode: Mode,
-    pub up: bool,
-}
+pub type End = ends::End<Mode>;
 
-#[derive(Clone, Copy)]
-pub struct Acted {
-    pub report: Report,
-    pub sent: ForConsole,
-    pub after: End,
-}
+pub type Acted = ends::Acted<Mode, ToConsole>;
+
+pub type Decided = ends::Decided<Mode, ToConsole>;

@@ -1,10 +1,11 @@
 // How a bench stands: a line for each end and for each channel.
 use crate::text::{say, say_with};
 use bench::Bench;
-use ends_console::fields::{Console, ConsoleRead, read_console};
-use ends_controller::fields::{Controller, ControllerRead, read_controller};
+use ends::End;
+use ends_console::fields::{Console, read_console};
+use ends_controller::fields::{Controller, read_controller};
 use tables::Way;
-use wire::{Head, ReadHead};
+use wire::Head;
 
 fn print_up(up: bool) {
     if up { say(b"up, ") } else { say(b"down, ") }
@@ -41,47 +42,41 @@ fn print_ack(ack: bool) {
 fn print_held(c: Console) {
     print_ack(c.ack);
     if c.held {
-        let message = c.message;
         say(b", holds \"");
-        say(&message);
+        say(&c.message);
         say(b"\"");
     }
     say(b"\n");
 }
 
-fn print_console_end(e: ends_console::End) {
-    let mode = e.mode;
-    print_up(e.up);
-    print_console_mode(mode);
-    say_with(b", last used J ", e.numbers.used);
-    say_with(b", reserved to ", e.numbers.reserved);
+// An end that is well formed, by what its modes print and the name of its numbers.
+fn print_end<Mode: Copy, Print: Fn(Mode)>(
+    end: Option<End<Mode>>,
+    print_mode: Print,
+    last_used: &[u8],
+)
+    requires { Print.IsAlwaysCallable print_mode }
+{
+    match end {
+        None => say(b"not well formed"),
+        Some(e) => {
+            print_up(e.up);
+            print_mode(e.mode);
+            say_with(last_used, e.numbers.used);
+            say_with(b", reserved to ", e.numbers.reserved)
+        }
+    }
 }
 
 fn print_console(c: Console) {
     say(b"  console ");
-    let read = read_console(c);
-    match read {
-        ConsoleRead::IllFormed => say(b"not well formed"),
-        ConsoleRead::Is(e) => print_console_end(e),
-    }
+    print_end(read_console(c), print_console_mode, b", last used J ");
     print_held(c);
-}
-
-fn print_controller_end(e: ends_controller::End) {
-    let mode = e.mode;
-    print_up(e.up);
-    print_controller_mode(mode);
-    say_with(b", last used I ", e.numbers.used);
-    say_with(b", reserved to ", e.numbers.reserved);
 }
 
 fn print_controller(c: Controller) {
     say(b"  controller ");
-    let read = read_controller(c);
-    match read {
-        ControllerRead::IllFormed => say(b"not well formed"),
-        ControllerRead::Is(e) => print_controller_end(e),
-    }
+    print_end(read_controller(c), print_controller_mode, b", last used I ");
     say(b"\n");
 }
 
@@ -100,36 +95,19 @@ fn print_head(h: Head) {
     say(b")");
 }
 
-// Prints nothing for a place that was refused.
-fn print_part(refusal: u8, part: &[u8]) {
-    if refusal != 0 {
-        return;
+// Prints nothing for a place that is refused.
+fn print_packet(way: Way, place: usize, out: &[u8], sent: usize, back: &[u8], returned: usize) {
+    if let Ok(part) = tables::show(way, place, out, sent, back, returned) {
+        if let Ok(head) = wire::read_head(part) {
+            print_head(head);
+        }
     }
-    let head = wire::read_head(part);
-    match head {
-        ReadHead::Refused(_) => {}
-        ReadHead::Is(h) => print_head(h),
-    }
-}
-
-fn print_packet<'a>(
-    way: Way,
-    place: usize,
-    out: &'a [u8],
-    sent: usize,
-    back: &'a [u8],
-    returned: usize,
-) {
-    let shown = tables::show(way, place, out, sent, back, returned);
-    print_part(shown.refusal, shown.part);
 }
 
 // The packets of a channel in the order of their places.
-fn print_packets<'a>(way: Way, out: &'a [u8], sent: usize, back: &'a [u8], returned: usize) {
-    let mut place = 0;
-    while place < 64 {
+fn print_packets(way: Way, out: &[u8], sent: usize, back: &[u8], returned: usize) {
+    for place in 0..64 {
         print_packet(way, place, out, sent, back, returned);
-        place += 1;
     }
 }
 
@@ -139,11 +117,9 @@ fn print_empty(count: usize) {
     }
 }
 
-pub(crate) fn print<'a>(b: Bench, out: &'a [u8], back: &'a [u8]) {
-    let console = b.console;
-    let controller = b.controller;
-    print_console(console);
-    print_controller(controller);
+pub(crate) fn print(b: Bench, out: &[u8], back: &[u8]) {
+    print_console(b.console);
+    print_controller(b.controller);
     say(b"  to controller:");
     print_empty(b.sent);
     print_packets(Way::Out, out, b.sent, back, b.returned);

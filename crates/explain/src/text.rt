@@ -7,5 +7,5 @@ pub(crate) fn say(words: &[u8]) {
 // Words, then a number.
 pub(crate) fn say_with(words: &[u8], n: u32) {
     say(words);
-    io::print_decimal(1, n as u64);
+    io::print_decimal(1, u64::from(n));
 }

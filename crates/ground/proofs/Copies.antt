@@ -1,11 +1,7 @@
 -- The part of a list that is lent from an offset on.
-use Prim.Native.Nat.{ℕ, ◌-◌}
-use mathlib.Core.Path.{◌≡◌}
-use mathlib.Core.List.{List}
-use native.Mathlib.Omega.{arith}
-use lib.ListN.{length, take, drop, length-drop}
-use lib.Seq.{take_all}
+use Rattle.std.proofs.Common.{ℕ, ◌-◌, ◌≡◌, List, length, take, drop, le_refl}
+use Rattle.std.proofs.lemmas.Slice.{between_to_end}
 
 -- the part from an offset on, as it is lent
 pub rest_lent : (s : List ℕ) (at : ℕ) → take (length s - at) (drop at s) ≡ drop at s
-rest_lent s at = take_all (length s - at) (drop at s) (rw (length-drop at s) (omega arith))
+rest_lent s at = between_to_end s at (length s) (le_refl (length s))

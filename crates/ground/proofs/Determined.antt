@@ -1,5 +1,5 @@
 -- Each promise of the crate determines its answer.
-use mathlib.Core.Path.{sym, ◌∙◌}
+use Rattle.std.proofs.Common.{sym, ◌∙◌}
 use Rattle.ground.proofs.Promise.{Determined}
 use Rattle.ground.proofs.is_block.Kinds as is-block-kinds
 use Rattle.ground.proofs.is_block.Reads as is-block
@@ -9,6 +9,8 @@ use Rattle.ground.proofs.is_message.Kinds as is-message-kinds
 use Rattle.ground.proofs.is_message.Reads as is-message
 use Rattle.ground.proofs.all_are.Kinds as all-are-kinds
 use Rattle.ground.proofs.all_are.Reads as all-are
+use Rattle.ground.proofs.refusals.U8FromRefusal.from.Kinds as number-kinds
+use Rattle.ground.proofs.refusals.U8FromRefusal.from.Reads as number
 
 pub is_block_determined : Determined is-block-kinds.ps is-block-kinds.r is-block.Post
 is_block_determined κs a x y s t p q = p ∙ sym q
@@ -21,3 +23,6 @@ is_message_determined κs a x y s t p q = p ∙ sym q
 
 pub all_are_determined : Determined all-are-kinds.ps all-are-kinds.r all-are.Post
 all_are_determined κs a x y s t p q = p ∙ sym q
+
+pub number_determined : Determined number-kinds.ps number-kinds.r number.Post
+number_determined κs a x y s t p q = p ∙ sym q

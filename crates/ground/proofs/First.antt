@@ -1,28 +1,23 @@
 -- Laws of the first refusal that applies.
-use Prim.Native.Nat.{ℕ}
-use mathlib.Core.Path.{◌≡◌, refl, ◌∙◌}
-use mathlib.Core.Bool.{Bool, true, false, not}
-use mathlib.Core.List.{List, [], ◌∷◌, ◌++◌, map}
-use native.Mathlib.Omega.{arith}
-use lib.Dec.{ltb}
-use borrow.Author.Tests.{ltb-true, not-false}
-use Rattle.ground.specs.Choice.{when◌then◌else◌}
+use Rattle.std.proofs.Common.{ℕ, ◌≡◌, refl, ◌∙◌, Bool, true, false, not, List, [], ◌∷◌, ◌++◌, map, arith, ltb, ltb-true}
+use Rattle.std.proofs.lemmas.Bool.{not-false}
+use Rattle.ground.specs.Choice.{chosen}
 use Rattle.ground.specs.Every.{every}
 use Rattle.ground.specs.First.{Rule, first, applies, refusal}
 use Rattle.ground.proofs.Tests.{and_left, and_right}
 
 -- the first of them applies, or doesn't
 pub first_applies : (n : ℕ) (b : Bool) (rs : List Rule) → b ≡ true → first ((n, b) ∷ rs) ≡ n
-unfolding first when◌then◌else◌
+unfolding first chosen
 first_applies n b rs e = rw e
 
 pub first_passes : (n : ℕ) (b : Bool) (rs : List Rule) → b ≡ false → first ((n, b) ∷ rs) ≡ first rs
-unfolding first when◌then◌else◌
+unfolding first chosen
 first_passes n b rs e = rw e
 
 -- without a refusal the first of them doesn't apply, nor does a later one
 pub none_applies : (n : ℕ) (b : Bool) (rs : List Rule) → ltb 0 n ≡ true → first ((n, b) ∷ rs) ≡ 0 → (b ≡ false) × (first rs ≡ 0)
-unfolding first when◌then◌else◌
+unfolding first chosen
 none_applies n true rs h e = let p = ltb-true 0 n h in absurd (omega (arith, p, e))
 none_applies n false rs h e = (refl, e)
 
@@ -32,7 +27,7 @@ none_wanting n b rs h e = let p = none_applies n (not b) rs h e in (not-false b 
 
 -- refusals, and more after them: the more count where none of the first applies
 kept : (n : ℕ) (b : Bool) (rs qs : List Rule) → ((first rs ≡ 0 → ⊥) → first (rs ++ qs) ≡ first rs) → (first ((n, b) ∷ rs) ≡ 0 → ⊥) → first ((n, b) ∷ (rs ++ qs)) ≡ first ((n, b) ∷ rs)
-unfolding first when◌then◌else◌
+unfolding first chosen
 kept n true rs qs ih h = refl
 kept n false rs qs ih h = ih h
 
@@ -71,5 +66,5 @@ pairs =
     ∷ []
 
 pub order_decides : map (λ (p : ℕ × ℕ). refusal ((p.1, true) ∷ (p.0, true) ∷ [])) pairs ≡ map (λ (p : ℕ × ℕ). p.0) pairs
-unfolding refusal first applies when◌then◌else◌
+unfolding refusal first applies chosen
 order_decides = refl

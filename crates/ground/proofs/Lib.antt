@@ -6,7 +6,9 @@ pub mod Elements
 pub mod Every
 pub mod First
 pub mod Lists
+pub mod Options
 pub mod Promise
+pub mod RefusalNumbers
 pub mod Tests
 pub mod Vectors
 pub mod Wrong

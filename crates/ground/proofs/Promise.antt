@@ -1,11 +1,5 @@
 -- What it is for a promise to determine its outcome, and to rule out a wrong program, over the reading of a function's `ensures` clauses.
-use Prim.Native.Nat.{ℕ}
-use mathlib.Core.Path.{◌≡◌, sym, ◌∙◌}
-use mathlib.Core.Bool.{false, true≢false}
-use mathlib.Core.List.{List}
-use native.Mathlib.Omega.{arith}
-use borrow.Author.Tests.{eq-eqb}
-use lib.Dec.{eqb}
+use Rattle.std.proofs.Common.{ℕ, ◌≡◌, sym, ◌∙◌, false, true≢false, List, arith, eq-eqb, eqb}
 use contract.Lifetimes.{Lfts}
 use borrow.Fn.Kinds.{ParamKind, ResultKind, Dens, Out, ended_of, res_t}
 use denote.Triple.Clauses.{AtExit}

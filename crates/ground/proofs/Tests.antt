@@ -1,6 +1,6 @@
 -- What tests say.
-use mathlib.Core.Path.{◌≡◌, refl}
-use mathlib.Core.Bool.{Bool, true, false, ◌&&◌, false≢true}
+use Rattle.std.proofs.Common.{◌≡◌, refl, Bool, true, false, ◌&&◌}
+use Rattle.std.proofs.lemmas.Bool.{and_parts, and_from}
 
 -- a proof by whether a test passes
 pub by_test : {P : Type 0} (b : Bool) → (b ≡ true → P) → (b ≡ false → P) → P
@@ -8,13 +8,10 @@ by_test true y n = y refl
 by_test false y n = n refl
 
 pub and_left : (a b : Bool) → (a && b) ≡ true → a ≡ true
-and_left true b e = refl
-and_left false b e = e
+and_left a b e = (and_parts a b e).0
 
 pub and_right : (a b : Bool) → (a && b) ≡ true → b ≡ true
-and_right true b e = e
-and_right false b e = absurd (false≢true e)
+and_right a b e = (and_parts a b e).1
 
 pub and_both : (a b : Bool) → a ≡ true → b ≡ true → (a && b) ≡ true
-and_both true b e f = f
-and_both false b e f = e
+and_both = and_from

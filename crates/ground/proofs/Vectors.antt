@@ -1,8 +1,5 @@
 -- The bounds of a cell and of a message, computed.
-use mathlib.Core.Path.{◌≡◌, refl}
-use mathlib.Core.Bool.{true, false}
-use mathlib.Core.List.{[], ◌∷◌, map}
-use lib.ListN.{take, set}
+use Rattle.std.proofs.Common.{◌≡◌, refl, true, false, [], ◌∷◌, map, take, set}
 use Rattle.ground.specs.Cell.{cell, cells, is_message, spaces}
 
 bounds : map cell (0x1F ∷ 0x20 ∷ 0x7E ∷ 0x7F ∷ []) ≡ false ∷ true ∷ true ∷ false ∷ []

@@ -1,13 +1,11 @@
 -- Programs that the promises rule out, each at one input.
-use mathlib.Core.Path.{◌≡◌, sym, ap, ◌∙◌}
-use mathlib.Core.Bool.{true, false, true≢false}
-use mathlib.Core.List.{[], ◌∷◌, ◌++◌}
-use lib.ListN.{length, get_or, take, replicate}
-use Prim.Native.Nat.{◌-◌}
+use Rattle.std.proofs.Common.{◌≡◌, refl, sym, ap, ◌∙◌, true, false, true≢false, [], ◌∷◌, ◌++◌, length, get_or, take, replicate, ◌-◌}
 use Rattle.ground.specs.Block.{is_block}
 use Rattle.ground.specs.Cell.{cell, cells, is_message, spaces}
 use Rattle.ground.specs.Every.{filled}
-use Rattle.ground.proofs.Promise.{RulesOut}
+use Rattle.ground.specs.Refusals.{number_of}
+use Rattle.ground.specs.declared.refusals.Refusal.TheVariants.{NoAction, WrongField}
+use Rattle.ground.proofs.Promise.{RulesOut, unequal}
 use Rattle.ground.proofs.is_block.Kinds as is-block-kinds
 use Rattle.ground.proofs.is_block.Reads as is-block
 use Rattle.ground.proofs.all_cells.Kinds as all-cells-kinds
@@ -16,6 +14,8 @@ use Rattle.ground.proofs.is_message.Kinds as is-message-kinds
 use Rattle.ground.proofs.is_message.Reads as is-message
 use Rattle.ground.proofs.all_are.Kinds as all-are-kinds
 use Rattle.ground.proofs.all_are.Reads as all-are
+use Rattle.ground.proofs.refusals.U8FromRefusal.from.Kinds as number-kinds
+use Rattle.ground.proofs.refusals.U8FromRefusal.from.Reads as number
 
 pub block_0_is_one : RulesOut is-block-kinds.ps is-block-kinds.r is-block.Post (λ κs a. a.0 ≡ 0) (λ κs a x s. x ≡ true)
 block_0_is_one κs a x s e w p = true≢false (sym w ∙ p ∙ ap is_block e)
@@ -49,3 +49,11 @@ all_are_always_yes κs a x s e w p = true≢false (sym w ∙ p ∙ (λ i. filled
 pub all_are_leaves_out_the_last : RulesOut all-are-kinds.ps all-are-kinds.r all-are.Post (λ κs a. (a.0.now ≡ 0 ∷ 1 ∷ []) × (a.1.0 ≡ 0)) (λ κs a x s. x ≡ filled a.1.0 (take (length a.0.now - 1) a.0.now))
 unfolding filled
 all_are_leaves_out_the_last κs a x s e w p = true≢false (sym (w ∙ (λ i. filled (e.1 i) (take (length (e.0 i) - 1) (e.0 i)))) ∙ p ∙ (λ i. filled (e.1 i) (e.0 i)))
+
+-- the first refusal says that nothing was refused
+pub counts_refusals_from_0 : RulesOut number-kinds.ps number-kinds.r number.Post (λ κs a. a.0 ≡ NoAction) (λ κs a x s. x ≡ 0)
+counts_refusals_from_0 κs a x s e w p = unequal (sym w ∙ p ∙ ap number_of e) refl
+
+-- one number for two refusals
+pub field_numbered_as_version : RulesOut number-kinds.ps number-kinds.r number.Post (λ κs a. a.0 ≡ WrongField) (λ κs a x s. x ≡ 14)
+field_numbered_as_version κs a x s e w p = unequal (sym w ∙ p ∙ ap number_of e) refl

@@ -5,3 +5,5 @@ pub mod Choice
 pub mod Every
 pub mod First
 pub mod Lists
+pub mod Options
+pub mod Refusals

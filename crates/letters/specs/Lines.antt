@@ -1,6 +1,6 @@
 -- What the rules' letters and lines are in the code. Assumes nothing.
-use Rattle.std.specs.Prelude.{ℕ, ◌≡◌}
-use Rattle.std.proofs.Math.Option.{Option, none, some}
+use Rattle.std.specs.Prelude.{ℕ, ◌≡◌, Option, Some, None}
+use Rattle.std.proofs.Math.Option as maybe
 use Rattle.rules.specs.Bench.{at}
 use Rattle.rules.specs.Letters as rules
 use Rattle.letters.specs.declared.ConsoleAsk.{ConsoleAsk}
@@ -9,11 +9,9 @@ use Rattle.letters.specs.declared.ControllerAsk.{ControllerAsk}
 use Rattle.letters.specs.declared.ControllerAsk.TheVariants as controller
 use Rattle.letters.specs.declared.Asks.{Asks}
 use Rattle.letters.specs.declared.Asks.TheVariants as asked
-use Rattle.letters.specs.declared.Takes.{Takes}
-use Rattle.letters.specs.declared.Takes.TheVariants as takes
 use Rattle.letters.specs.declared.Line.{Line}
-use Rattle.letters.specs.declared.Found.{Found}
-use Rattle.letters.specs.declared.Found.TheVariants as found
+use Rattle.wire.specs.declared.Direction.{Direction}
+use Rattle.wire.specs.declared.Direction.TheVariants.{ToController, ToConsole}
 
 -- ## What is asked, in the code and back
 
@@ -59,10 +57,10 @@ asks_means (asked.Console a) = rules.the_console (console_ask_means a)
 asks_means (asked.Controller a) = rules.the_controller (controller_ask_means a)
 asks_means asked.NoEnd = rules.neither_end
 
-abbrev pub takes_of : rules.Taken → Takes
-takes_of rules.from_neither = takes.Nothing
-takes_of rules.from_to_controller = takes.ToController
-takes_of rules.from_to_console = takes.ToConsole
+abbrev pub takes_of : rules.Taken → Option Direction
+takes_of rules.from_neither = None
+takes_of rules.from_to_controller = Some ToController
+takes_of rules.from_to_console = Some ToConsole
 
 -- ## The line of a letter
 
@@ -77,32 +75,32 @@ line_of l =
       message = (rules.line l).message;
     }
 
-abbrev pub found_of : Option rules.Letter → Found
-found_of none = found.Nothing
-found_of (some l) = found.Line (line_of l)
+abbrev pub found_of : maybe.Option rules.Letter → Option Line
+found_of maybe.none = None
+found_of (maybe.some l) = Some (line_of l)
 
 -- a letter that is no action is 1
-abbrev pub letter_refusal : Option rules.Letter → ℕ
-letter_refusal none = 1
-letter_refusal (some l) = 0
+abbrev pub letter_refusal : maybe.Option rules.Letter → ℕ
+letter_refusal maybe.none = 1
+letter_refusal (maybe.some l) = 0
 
 -- document 01's number of each case
-abbrev pub found_refusal : Found → ℕ
-found_refusal found.Nothing = 1
-found_refusal (found.Line l) = 0
+abbrev pub found_refusal : Option Line → ℕ
+found_refusal None = 1
+found_refusal (Some l) = 0
 
 -- the line at a place of the table
-unfoldable pub found_at : ℕ → Found
+unfoldable pub found_at : ℕ → Option Line
 found_at k = found_of (at rules.letters k)
 
 -- ## The letter of a line, by what it asks and takes
 
-abbrev lost_from : Takes → rules.Letter
-lost_from takes.Nothing = rules.l_lose
-lost_from takes.ToController = rules.l_lose
-lost_from takes.ToConsole = rules.m_lose
+abbrev lost_from : Option Direction → rules.Letter
+lost_from None = rules.l_lose
+lost_from (Some ToController) = rules.l_lose
+lost_from (Some ToConsole) = rules.m_lose
 
-abbrev asking : Asks → Takes → rules.Letter
+abbrev asking : Asks → Option Direction → rules.Letter
 asking (asked.Console console.Put) t = rules.p_put
 asking (asked.Console console.SendNeedI) t = rules.q_need
 asking (asked.Console console.SendData) t = rules.d_data

@@ -5,6 +5,8 @@ ghost use Rattle.std.specs.Prelude.{◌<◌, ◌≡◌};
 ghost use Rattle.rules.specs.Letters.{letter};
 ghost use Rattle.letters.specs.Lines.{found_of, found_refusal, letter_refusal, found_at};
 
+use wire::Direction;
+
 // What the console, or the controller, can be asked to do.
 #[derive(Clone, Copy)]
 pub enum ConsoleAsk {
@@ -26,7 +28,7 @@ pub enum ControllerAsk {
     ComeBack,
 }
 
-// Whom a letter asks, and to do what.
+// Whom a letter asks, and to do what. NoEnd is a case of document 01's table, as the other two are: L and M ask no end.
 #[derive(Clone, Copy)]
 pub enum Asks {
     Console(ConsoleAsk),
@@ -34,36 +36,22 @@ pub enum Asks {
     NoEnd,
 }
 
-// The channel that it takes a packet out of: the one to the controller, or to the console.
-#[derive(Clone, Copy)]
-pub enum Takes {
-    Nothing,
-    ToController,
-    ToConsole,
-}
-
-// A letter's byte, whom it asks what, what it takes, and whether it uses the place, the copies and the message.
+// A letter's byte, whom it asks what, the way of the packet that it takes out of its channel, and whether it uses the place, the copies and the message.
 #[derive(Clone, Copy)]
 pub struct Line {
     pub byte: u8,
     pub asks: Asks,
-    pub takes: Takes,
+    pub takes: Option<Direction>,
     pub place: bool,
     pub copies: bool,
     pub message: bool,
-}
-
-#[derive(Clone, Copy)]
-pub enum Found {
-    Line(Line),
-    Nothing,
 }
 
 const LINES: [Line; 14] = [
     Line {
         byte: b'P',
         asks: Asks::Console(ConsoleAsk::Put),
-        takes: Takes::Nothing,
+        takes: None,
         place: false,
         copies: false,
         message: true,
@@ -71,7 +59,7 @@ const LINES: [Line; 14] = [
     Line {
         byte: b'Q',
         asks: Asks::Console(ConsoleAsk::SendNeedI),
-        takes: Takes::Nothing,
+        takes: None,
         place: false,
         copies: true,
         message: false,
@@ -79,7 +67,7 @@ const LINES: [Line; 14] = [
     Line {
         byte: b'D',
         asks: Asks::Console(ConsoleAsk::SendData),
-        takes: Takes::Nothing,
+        takes: None,
         place: false,
         copies: true,
         message: false,
@@ -87,7 +75,7 @@ const LINES: [Line; 14] = [
     Line {
         byte: b'S',
         asks: Asks::Console(ConsoleAsk::Take),
-        takes: Takes::ToConsole,
+        takes: Some(Direction::ToConsole),
         place: true,
         copies: true,
         message: false,
@@ -95,7 +83,7 @@ const LINES: [Line; 14] = [
     Line {
         byte: b'C',
         asks: Asks::Console(ConsoleAsk::GoDown),
-        takes: Takes::Nothing,
+        takes: None,
         place: false,
         copies: false,
         message: false,
@@ -103,7 +91,7 @@ const LINES: [Line; 14] = [
     Line {
         byte: b'V',
         asks: Asks::Console(ConsoleAsk::ComeBack),
-        takes: Takes::Nothing,
+        takes: None,
         place: false,
         copies: false,
         message: false,
@@ -111,7 +99,7 @@ const LINES: [Line; 14] = [
     Line {
         byte: b'O',
         asks: Asks::Controller(ControllerAsk::SendOffer),
-        takes: Takes::Nothing,
+        takes: None,
         place: false,
         copies: true,
         message: false,
@@ -119,7 +107,7 @@ const LINES: [Line; 14] = [
     Line {
         byte: b'K',
         asks: Asks::Controller(ControllerAsk::SendOk),
-        takes: Takes::Nothing,
+        takes: None,
         place: false,
         copies: true,
         message: false,
@@ -127,7 +115,7 @@ const LINES: [Line; 14] = [
     Line {
         byte: b'R',
         asks: Asks::Controller(ControllerAsk::Take),
-        takes: Takes::ToController,
+        takes: Some(Direction::ToController),
         place: true,
         copies: true,
         message: false,
@@ -135,7 +123,7 @@ const LINES: [Line; 14] = [
     Line {
         byte: b'X',
         asks: Asks::Controller(ControllerAsk::GoDown),
-        takes: Takes::Nothing,
+        takes: None,
         place: false,
         copies: false,
         message: false,
@@ -143,7 +131,7 @@ const LINES: [Line; 14] = [
     Line {
         byte: b'Y',
         asks: Asks::Controller(ControllerAsk::ComeBack),
-        takes: Takes::Nothing,
+        takes: None,
         place: false,
         copies: false,
         message: false,
@@ -151,7 +139,7 @@ const LINES: [Line; 14] = [
     Line {
         byte: b'L',
         asks: Asks::NoEnd,
-        takes: Takes::ToController,
+        takes: Some(Direction::ToController),
         place: true,
         copies: false,
         message: false,
@@ -159,7 +147,7 @@ const LINES: [Line; 14] = [
     Line {
         byte: b'M',
         asks: Asks::NoEnd,
-        takes: Takes::ToConsole,
+        takes: Some(Direction::ToConsole),
         place: true,
         copies: false,
         message: false,
@@ -167,7 +155,7 @@ const LINES: [Line; 14] = [
     Line {
         byte: b'A',
         asks: Asks::Console(ConsoleAsk::TellAck),
-        takes: Takes::Nothing,
+        takes: None,
         place: false,
         copies: false,
         message: false,
@@ -175,32 +163,33 @@ const LINES: [Line; 14] = [
 ];
 
 // A line of the table. At a place that is known when the code is compiled, nothing of the table is laid out.
-fn line_at(k: usize) -> Found
+#[inline(always)]
+fn line_at(k: usize) -> Line
     requires { k < 14 }
-    ensures { result ≡ found_at k }
+    ensures { Some result ≡ found_at k }
 {
-    Found::Line(LINES[k])
+    LINES[k]
 }
 
-// The line of a byte; Nothing is refusal 1: no action has this letter.
-pub fn find(byte: u8) -> Found
+// The line of a byte; none is refusal 1: no action has this letter. A match, not a scan of the table: the compiler would lay the table out for it.
+pub fn find(byte: u8) -> Option<Line>
     ensures { (result ≡ found_of (letter byte)) × (found_refusal result ≡ letter_refusal (letter byte)) }
 {
     match byte {
-        b'P' => line_at(0),
-        b'Q' => line_at(1),
-        b'D' => line_at(2),
-        b'S' => line_at(3),
-        b'C' => line_at(4),
-        b'V' => line_at(5),
-        b'O' => line_at(6),
-        b'K' => line_at(7),
-        b'R' => line_at(8),
-        b'X' => line_at(9),
-        b'Y' => line_at(10),
-        b'L' => line_at(11),
-        b'M' => line_at(12),
-        b'A' => line_at(13),
-        _ => Found::Nothing,
+        b'P' => Some(line_at(0)),
+        b'Q' => Some(line_at(1)),
+        b'D' => Some(line_at(2)),
+        b'S' => Some(line_at(3)),
+        b'C' => Some(line_at(4)),
+        b'V' => Some(line_at(5)),
+        b'O' => Some(line_at(6)),
+        b'K' => Some(line_at(7)),
+        b'R' => Some(line_at(8)),
+        b'X' => Some(line_at(9)),
+        b'Y' => Some(line_at(10)),
+        b'L' => Some(line_at(11)),
+        b'M' => Some(line_at(12)),
+        b'A' => Some(line_at(13)),
+        _ => None,
     }
 }

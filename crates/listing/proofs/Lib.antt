@@ -1,8 +1,7 @@
 pub mod Determined
 pub mod Ending
-pub mod FieldTests
 pub mod LineParts
 pub mod LineWritten
-pub mod RecordRead
+pub mod Records
 pub mod Vectors
 pub mod Wrong

@@ -4,13 +4,14 @@ use mathlib.Core.Path.{◌≡◌, refl}
 use mathlib.Core.Bool.{Bool, true, false}
 use mathlib.Core.List.{List, [], ◌∷◌, ◌++◌, map}
 use lib.ListN.{take, set, replicate}
+use Rattle.std.specs.Prelude.{Option, None, Some}
 use Rattle.ground.specs.Cell.{cells, is_message, spaces}
-use Rattle.ground.specs.Choice.{when◌then◌else◌}
+use Rattle.ground.specs.Choice.{chosen}
 use Rattle.ground.specs.Every.{filled}
 use Rattle.listing.specs.declared.Fields.{Fields}
 use Rattle.listing.specs.declared.Uses.{Uses}
 use Rattle.listing.specs.Line.{decimals, line_bytes, line_written}
-use Rattle.listing.specs.Record.{is_place, is_copies, place_fits, copies_fit, message_fits, fields_fit, is_well_formed, fields, ill_formed, list_record}
+use Rattle.listing.specs.Record.{is_place, is_copies, place_fits, copies_fit, message_fits, fields_fit, is_well_formed, fields, list_record}
 
 -- "START FILLER 03 "
 abbrev pub start : List ℕ
@@ -41,14 +42,14 @@ bare = uses false false false
 
 -- for proofs: `unfolding reads` opens all that a read is made of
 unfoldable pub reads : Unit {0}
-unfolding list_record is_well_formed fields ill_formed fields_fit place_fits copies_fit message_fits is_place is_copies is_message cells filled when◌then◌else◌
+unfolding list_record is_well_formed fields fields_fit place_fits copies_fit message_fits is_place is_copies is_message cells filled chosen
 reads = tt
 
 -- ## Records
 
 -- a record that was read
-abbrev is : ℕ → ℕ → List ℕ → Fields
-is place copies message = record { fits = true; place = place; copies = copies; message = message }
+abbrev is : ℕ → ℕ → List ℕ → Option Fields
+is place copies message = Some (record { place = place; copies = copies; message = message })
 
 -- "P000START FILLER 03 "
 pub start_read : list_record said (laid 0x50 0x30 0x30 0x30 start) ≡ is 0 0 start
@@ -57,7 +58,7 @@ start_read = refl
 
 -- what the letter uses, the record, and what is read: "P000", "Q001", "S633", "L090", "X000", and one whose letter is looked at by nobody
 abbrev Row : Type 0
-Row = Uses × List ℕ × Fields
+Row = Uses × List ℕ × Option Fields
 
 abbrev good : List Row
 good =
@@ -113,7 +114,7 @@ bad_ends =
     ∷ (said, laid 0x50 0x30 0x30 0x30 start ++ (0x0A ∷ []))
     ∷ []
 
-bad_read : map (λ (v : Uses × List ℕ). list_record v.0 v.1) (bad_places ++ bad_copies ++ unused ++ no_cells ++ bad_ends) ≡ replicate 22 ill_formed
+bad_read : map (λ (v : Uses × List ℕ). list_record v.0 v.1) (bad_places ++ bad_copies ++ unused ++ no_cells ++ bad_ends) ≡ replicate 22 None
 unfolding reads
 bad_read = refl
 
@@ -138,10 +139,10 @@ rows =
     ∷ []
 
 rows_written : map (λ (v : Line). line_written (replicate 27 7) v.0 v.1 v.2 v.3) rows ≡ map (λ (v : Line). v.4 ++ (v.3 ++ (0x0A ∷ []))) rows
-unfolding line_written line_bytes decimals when◌then◌else◌
+unfolding line_written line_bytes decimals chosen
 rows_written = refl
 
 -- buffers of 26 and 28 bytes stay
 others_kept : map (λ n. line_written (replicate n 7) 1 0x50 (0x2D ∷ 0x2D ∷ []) spaces) (26 ∷ 28 ∷ []) ≡ replicate 26 7 ∷ replicate 28 7 ∷ []
-unfolding line_written when◌then◌else◌
+unfolding line_written chosen
 others_kept = refl

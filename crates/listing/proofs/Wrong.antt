@@ -1,7 +1,7 @@
 -- Programs that the promises shut out, each at one input.
 use Prim.Native.Nat.{ℕ}
-use mathlib.Core.Path.{◌≡◌, refl, sym, ap, ◌∙◌}
-use mathlib.Core.Bool.{true, false, true≢false}
+use mathlib.Core.Path.{◌≡◌, refl, sym, ap, subst, ◌∙◌}
+use mathlib.Core.Bool.{false≢true}
 use mathlib.Core.List.{List, [], ◌∷◌}
 use native.Mathlib.Omega.{arith}
 use borrow.Author.Tests.{ne_eqb}
@@ -9,10 +9,11 @@ use lib.ListN.{length, get_or, replicate}
 use contract.Lifetimes.{Lfts}
 use borrow.Fn.Kinds.{Dens, ended_of}
 use denote.Triple.Clauses.{AtExit}
+use Rattle.std.specs.Prelude.{None, IsSome}
+use Rattle.std.proofs.lemmas.Option.{none-some}
 use Rattle.ground.specs.Cell.{spaces}
-use Rattle.ground.specs.Choice.{when◌then◌else◌}
+use Rattle.ground.specs.Choice.{chosen}
 use Rattle.ground.proofs.Promise.{RulesOut}
-use Rattle.listing.specs.declared.Fields.{Fields}
 use Rattle.listing.specs.declared.Uses.{Uses}
 use Rattle.listing.specs.Line.{decimals, line_bytes, line_written}
 use Rattle.listing.specs.Record.{list_record, record_end}
@@ -32,15 +33,15 @@ use Rattle.listing.proofs.writing.write_line.Reads as write-line
 abbrev Given : Uses → List ℕ → (κs : Lfts 1) → Dens κs read-kinds.ps → Type 0
 Given u r κs a = (a.0.now ≡ r) × (a.1.0 ≡ u)
 
-pub always_refuses : RulesOut read-kinds.ps read-kinds.r read.Post (Given said (laid 0x50 0x30 0x30 0x30 start)) (λ κs a x s. x.fits ≡ false)
-always_refuses κs a x s g w p = true≢false (sym (ap (λ (r : Fields). r.fits) (p ∙ (λ i. list_record (g.1 i) (g.0 i)) ∙ start_read)) ∙ w)
+pub always_refuses : RulesOut read-kinds.ps read-kinds.r read.Post (Given said (laid 0x50 0x30 0x30 0x30 start)) (λ κs a x s. x ≡ None)
+always_refuses κs a x s g w p = none-some _ (sym w ∙ p ∙ (λ i. list_record (g.1 i) (g.0 i)) ∙ start_read)
 
 -- one that takes a record that is not well formed
 abbrev Takes : Uses → List ℕ → Type 0
-Takes u r = RulesOut read-kinds.ps read-kinds.r read.Post (Given u r) (λ κs a x s. x.fits ≡ true)
+Takes u r = RulesOut read-kinds.ps read-kinds.r read.Post (Given u r) (λ κs a x s. IsSome x)
 
-takes : (u : Uses) (r : List ℕ) → (list_record u r).fits ≡ false → Takes u r
-takes u r f κs a x s g w p = true≢false (sym w ∙ ap (λ (r : Fields). r.fits) (p ∙ λ i. list_record (g.1 i) (g.0 i)) ∙ f)
+takes : (u : Uses) (r : List ℕ) → list_record u r ≡ None → Takes u r
+takes u r f κs a x s g w p = false≢true (subst IsSome (p ∙ (λ i. list_record (g.1 i) (g.0 i)) ∙ f) w)
 
 -- "P010START FILLER 03 ": a put uses no place
 pub ignores_unused_fields : Takes said (laid 0x50 0x30 0x31 0x30 start)
@@ -80,7 +81,7 @@ space_for_0 κs a x s e w p =
 
 module _ (κs : Lfts 1) (a : Dens κs write-line-kinds.ps) (s : AtExit (ended_of 1 write-line-kinds.ps write-line-kinds.r) κs) (zeros : a.0.now ≡ replicate 27 0) (meets : write-line.Post κs a tt s) where
   written : s.0.now ≡ line_bytes a.1.0 a.1.1.0 a.1.1.1.0 a.1.1.1.1.0
-  unfolding line_written when◌then◌else◌
+  unfolding line_written chosen
   written = meets ∙ ap (λ (l : List ℕ). line_written l a.1.0 a.1.1.0 a.1.1.1.0 a.1.1.1.1.0) zeros
 
   pub changes_nothing : s.0.now ≡ a.0.now → ⊥
@@ -99,7 +100,7 @@ module _ (κs : Lfts 1) (a : Dens κs write-line-kinds.ps) (s : AtExit (ended_of
 
 -- lent 28 bytes
 pub writes_to_28_bytes : RulesOut write-line-kinds.ps write-line-kinds.r write-line.Post (λ κs a. length a.0.now ≡ 28) (λ κs a x s. s.0.now ≡ a.0.now → ⊥)
-unfolding line_written when◌then◌else◌
+unfolding line_written chosen
 writes_to_28_bytes κs a x s e w p = w (rw (ne_eqb (length a.0.now) 27 (λ h. omega (arith, e, h))) at p)
 
 -- ## Where a record ends
@@ -108,14 +109,14 @@ writes_to_28_bytes κs a x s e w p = w (rw (ne_eqb (length a.0.now) 27 (λ h. om
 module _ (κs : Lfts 0) (a : Dens κs record-end-kinds.ps) (x : ℕ) (s : AtExit (ended_of 0 record-end-kinds.ps record-end-kinds.r) κs) (long : a.1.0 ≡ 40) (meets : record-end.Post κs a x s) where
   -- the last record is short
   pub reads_past_the_end : a.0 ≡ 21 → x ≡ 42 → ⊥
-  unfolding record_end when◌then◌else◌
+  unfolding record_end chosen
   reads_past_the_end b e =
       let q : x ≡ 40 = meets ∙ λ i. record_end (b i) (long i) in
       omega (arith, q, e)
 
   -- the line feed belongs to the record
   pub leaves_the_line_feed : a.0 ≡ 0 → x ≡ 20 → ⊥
-  unfolding record_end when◌then◌else◌
+  unfolding record_end chosen
   leaves_the_line_feed b e =
       let q : x ≡ 21 = meets ∙ λ i. record_end (b i) (long i) in
       omega (arith, q, e)

@@ -1,8 +1,8 @@
 -- A record of a list program, 21 bytes: letter; place, two digits 00 to 63; copies, one digit 0 to 3; 16 message cells; byte 0x0A. Which letters there are,
 -- and what each uses, is not said here. Assumes nothing.
-use Rattle.std.specs.Prelude.{ℕ, ◌+◌, ◌*◌, ◌-◌, Bool, true, false, ◌&&◌, ◌||◌, List, length, get_or, eqb, leb, ltb}
+use Rattle.std.specs.Prelude.{ℕ, ◌+◌, ◌*◌, ◌-◌, Bool, ◌&&◌, ◌||◌, List, length, get_or, eqb, leb, ltb, Option, None, Some}
 use Rattle.ground.specs.Bytes.{field}
-use Rattle.ground.specs.Cell.{is_message, spaces}
+use Rattle.ground.specs.Cell.{is_message}
 use Rattle.ground.specs.Choice.{when◌then◌else◌}
 use Rattle.ground.specs.Every.{filled}
 use Rattle.listing.specs.declared.Fields.{Fields}
@@ -44,22 +44,13 @@ fields_fit u s =
 unfoldable pub is_well_formed : Uses → List ℕ → Bool
 is_well_formed u s = eqb (length s) 21 && fields_fit u s
 
--- what is read of a record that is well formed, and of one that is not
+-- what is read of a record that is well formed
 unfoldable pub fields : List ℕ → Fields
-fields s =
-    record {
-      fits = true;
-      place = place_of (get_or s 1 0) (get_or s 2 0);
-      copies = copies_of (get_or s 3 0);
-      message = field s 4 16;
-    }
+fields s = record { place = place_of (get_or s 1 0) (get_or s 2 0); copies = copies_of (get_or s 3 0); message = field s 4 16 }
 
-unfoldable pub ill_formed : Fields
-ill_formed = record { fits = false; place = 0; copies = 0; message = spaces }
-
--- with what the letter uses
-unfoldable pub list_record : Uses → List ℕ → Fields
-list_record u s = when is_well_formed u s then fields s else ill_formed
+-- with what the letter uses; none: the record is not well formed
+unfoldable pub list_record : Uses → List ℕ → Option Fields
+list_record u s = when is_well_formed u s then Some (fields s) else None
 
 -- where a record that begins at `start` ends in `len` bytes: 21 bytes on, but the last may be short
 unfoldable pub record_end : ℕ → ℕ → ℕ

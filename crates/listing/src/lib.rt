@@ -15,10 +15,9 @@ pub struct Uses {
     pub message: bool,
 }
 
-// The fields of a list record after its letter, and whether they are well formed; 0, 0 and 16 spaces if not.
+// The fields of a list record after its letter.
 #[derive(Clone, Copy)]
 pub struct Fields {
-    pub fits: bool,
     pub place: usize,
     pub copies: usize,
     pub message: [u8; 16],

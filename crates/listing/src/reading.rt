@@ -1,126 +1,74 @@
 // List records of 21 bytes.
-ghost use Rattle.std.specs.Prelude.{◌≡◌, ◌≤◌, ◌<◌, length};
-ghost use Rattle.ground.specs.Bytes.{field};
-ghost use Rattle.listing.specs.Record.{digit, place_of, copies_of, place_fits, copies_fit, message_fits, fields_fit, ill_formed, list_record, record_end};
+ghost use Rattle.std.specs.Prelude.{◌≡◌, length};
+ghost use Rattle.std.specs.Bool.{then_some};
+ghost use Rattle.listing.specs.Record.{place_of, copies_of, place_fits, copies_fit, message_fits, list_record, record_end};
 
 use crate::{Fields, Uses};
 
-fn is_digit(b: u8) -> bool
-    ensures { result ≡ digit b }
+// Two digits 00 to 63; 00 where the letter doesn't use the place.
+#[tactic(auto, using(std::proofs::lemmas::Bool::Decides::nat_tests), unfolding(crate::specs::Record::place_fits, crate::specs::Record::is_place))]
+fn place_in(tens: u8, ones: u8, used: bool) -> Option<usize>
+    ensures { result ≡ then_some (place_fits used tens ones) (place_of tens ones) }
 {
-    (b'0' <= b) & (b <= b'9')
+    match (tens, ones) {
+        (b'0', b'0') => Some(0),
+        (b'0'..=b'5', b'0'..=b'9') | (b'6', b'0'..=b'3') if used => {
+            Some(10 * usize::from(tens - b'0') + usize::from(ones - b'0'))
+        }
+        _ => None,
+    }
 }
 
-// A byte with its bound, so that ten of them are known to fit.
-fn wide(b: u8) -> usize
-    ensures { (result ≡ b) × (result < 256) }
+// A digit 0 to 3; 0 where the letter doesn't use the copies.
+#[tactic(auto, using(std::proofs::lemmas::Bool::Decides::nat_tests), unfolding(crate::specs::Record::copies_fit, crate::specs::Record::is_copies))]
+fn copies_in(b: u8, used: bool) -> Option<usize>
+    ensures { result ≡ then_some (copies_fit used b) (copies_of b) }
 {
-    b as usize
+    match b {
+        b'0' => Some(0),
+        b'1'..=b'3' if used => Some(usize::from(b - b'0')),
+        _ => None,
+    }
 }
 
-// Whether two bytes are a place, 00 where the letter doesn't use it. 528 is what the digits 00 come to as bytes.
-fn place_fits(tens: u8, ones: u8, used: bool) -> bool
-    ensures { result ≡ place_fits used tens ones }
+// 16 cells; spaces where the letter doesn't use the message.
+#[tactic(auto, using(std::proofs::lemmas::Bool::Decides::nat_tests, crate::proofs::Records::spaces_message), unfolding(crate::specs::Record::message_fits))]
+fn message_in(s: &[u8], used: bool) -> Option<[u8; 16]>
+    requires { length s.now ≡ 16 }
+    ensures { result ≡ then_some (message_fits used s.now) s.now }
 {
-    if used {
-        is_digit(tens) & is_digit(ones) & (10 * wide(tens) + wide(ones) <= 528 + 63)
+    let mut message = [0; 16];
+    message.copy_from_slice(s);
+    let fits = if used {
+        ground::is_message(&message)
     } else {
-        (tens == b'0') & (ones == b'0')
-    }
-}
-
-fn copies_fit(b: u8, used: bool) -> bool
-    ensures { result ≡ copies_fit used b }
-{
-    if used {
-        (b'0' <= b) & (b <= b'3')
-    } else {
-        b == b'0'
-    }
-}
-
-fn message_fits(m: [u8; 16], used: bool) -> bool
-    ensures { result ≡ message_fits used m }
-{
-    if used {
-        ground::is_message(&m)
-    } else {
-        ground::all_are(&m, b' ')
-    }
-}
-
-// Whether bytes 1 to 20 are as a letter with these uses wants them.
-fn fields_fit(s: &[u8], uses: Uses) -> bool
-    requires { length s.now ≡ 21 }
-    ensures { result ≡ fields_fit uses s.now }
-{
-    if place_fits(s[1], s[2], uses.place) & copies_fit(s[3], uses.copies) & (s[20] == b'\n') {
-        message_fits(message_at(s), uses.message)
-    } else {
-        false
-    }
-}
-
-fn place_of(tens: u8, ones: u8) -> usize
-    requires le_tens { 0x30 ≤ tens }
-    requires le_ones { 0x30 ≤ ones }
-    ensures { result ≡ place_of tens ones }
-{
-    10 * (tens - b'0') as usize + (ones - b'0') as usize
-}
-
-fn copies_of(b: u8) -> usize
-    requires { 0x30 ≤ b }
-    ensures { result ≡ copies_of b }
-{
-    (b - b'0') as usize
-}
-
-fn message_at(s: &[u8]) -> [u8; 16]
-    requires { length s.now ≡ 21 }
-    ensures { result ≡ field s.now 4 16 }
-{
-    let mut m = [0; 16];
-    m.copy_from_slice(&s[4..20]);
-    m
-}
-
-fn ill_formed() -> Fields
-    ensures { result ≡ ill_formed }
-{
-    Fields {
-        fits: false,
-        place: 0,
-        copies: 0,
-        message: [b' '; 16],
-    }
+        ground::all_are(&message, b' ')
+    };
+    fits.then_some(message)
 }
 
 // The letter's byte is not looked at.
-pub fn read(s: &[u8], uses: Uses) -> Fields
+#[tactic(auto, using(std::proofs::lemmas::Bool::Decides::nat_tests), unfolding(crate::proofs::Records::records))]
+pub fn read(s: &[u8], uses: Uses) -> Option<Fields>
     ensures { result ≡ list_record uses s.now }
 {
     if s.len() != 21 {
-        return ill_formed();
+        return None;
     }
-    if fields_fit(s, uses) {
-        Fields {
-            fits: true,
-            place: place_of(s[1], s[2]),
-            copies: copies_of(s[3]),
-            message: message_at(s),
-        }
-    } else {
-        ill_formed()
+    if s[20] != b'\n' {
+        return None;
     }
+    Some(Fields {
+        place: place_in(s[1], s[2], uses.place)?,
+        copies: copies_in(s[3], uses.copies)?,
+        message: message_in(&s[4..20], uses.message)?,
+    })
 }
 
 // Where a record that begins at `start` ends in `len` bytes: the last may be short.
+#[tactic(auto, using(std::proofs::lemmas::Bool::Decides::nat_tests), unfolding(crate::proofs::Records::records))]
 pub fn record_end(start: usize, len: usize) -> usize
     ensures { result ≡ record_end start len }
 {
-    if len < 21 {
-        return len;
-    }
-    if len - 21 < start { len } else { start + 21 }
+    len.min(start.saturating_add(21))
 }

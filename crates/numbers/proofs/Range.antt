@@ -3,22 +3,20 @@ use Prim.Native.Nat.{ℕ, ◌<◌, ◌^◌}
 use mathlib.Core.Path.{◌≡◌}
 use mathlib.Core.Bool.{true}
 use native.Mathlib.Omega.{arith}
-use lib.Dec.{leb}
-use borrow.Author.Tests.{le-leb, leb-true}
-use Rattle.ground.proofs.Tests.{and_left, and_right, and_both}
-use Rattle.rules.specs.Supply.{Numbers, numbering, largest, fresh_numbers}
+use Rattle.std.proofs.lemmas.Bool.Decides.{nat_tests}
+use Rattle.rules.specs.Supply.{Numbers, numbering, fresh_numbers}
 use Rattle.rules.proofs.Supply as supply
 use Rattle.rules.proofs.Supply.{sound_says}
 use Rattle.rules.specs.WellFormed.{Number, Given}
 
 pub number_is : (n : ℕ) → 0 < n → n < 2 ^ 32 → Number numbering n
-number_is n h k = and_both (leb 1 n) (leb n largest) (le-leb 1 n h) (le-leb n largest (omega (arith, k)))
+number_is n h k = grind (arith, nat_tests)
 
 pub number_above : (n : ℕ) → Number numbering n → 0 < n
-number_above n h = leb-true 1 n (and_left (leb 1 n) (leb n largest) h)
+number_above n h = grind (arith, nat_tests)
 
 pub number_below : (n : ℕ) → Number numbering n → n < 2 ^ 32
-number_below n h = let k = leb-true n largest (and_right (leb 1 n) (leb n largest) h) in omega (arith, k)
+number_below n h = grind (arith, nat_tests)
 
 -- a fresh end's are sound, whatever it starts from
 pub fresh_sound : (n : ℕ) → n < 2 ^ 32 → numbering.sound (fresh_numbers n) ≡ true
@@ -31,17 +29,8 @@ pub record Fit (s : Numbers) : Type 0 where
   pub block : s.block < 2 ^ 16
 
 pub sound_fits : (s : Numbers) → numbering.sound s ≡ true → Fit s
-sound_fits s h =
-    let k = sound_says s h in
-    record {
-      last = omega (arith, k.below, k.most);
-      reserved = omega (arith, k.most);
-      block = omega (arith, k.most_block);
-    }
+sound_fits s h = let k = sound_says s h in record { last = omega arith; reserved = omega arith; block = omega arith }
 
 -- a number that sound numbers have used is one of the end's own
 pub given_is : (s : Numbers) (n : ℕ) → numbering.sound s ≡ true → 0 < n → numbering.used s n ≡ true → Given numbering s n
-given_is s n h k u =
-    let l = leb-true n s.last u in
-    let m = (sound_fits s h).last in
-    (number_is n k (omega (arith, l, m)), u)
+given_is s n h k u = let fit = sound_fits s h in (number_is n k (grind (arith, nat_tests)), u)

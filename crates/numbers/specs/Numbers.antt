@@ -1,6 +1,7 @@
 -- An end's numbers in the rules, and back. Assumes nothing.
 use Rattle.std.specs.Prelude.{ℕ, Bool, true, false, eqb}
-use Rattle.std.proofs.Math.Option.{Option, none, some}
+use Rattle.std.proofs.Math.Option as maybe
+use Rattle.std.proofs.Math.Option.{none, some}
 use Rattle.ground.specs.Choice.{when◌then◌else◌}
 use Rattle.rules.specs.Supply as rules
 use Rattle.rules.specs.Supply.{numbering}
@@ -26,11 +27,11 @@ numbers_fresh used = numbers_back (rules.fresh_numbers used)
 
 -- ## A number, or none, which is 0
 
-abbrev pub number_or0 : Option ℕ → ℕ
+abbrev pub number_or0 : maybe.Option ℕ → ℕ
 number_or0 none = 0
 number_or0 (some n) = n
 
-unfoldable pub given : ℕ → Option ℕ
+unfoldable pub given : ℕ → maybe.Option ℕ
 given n = when eqb n 0 then none else some n
 
 -- ## What a step does to them

@@ -9,7 +9,7 @@ use mathlib.Core.List.{List, [], ◌∷◌, ◌++◌}
 use native.Mathlib.Omega.{arith}
 use lib.Dec.{eqb}
 use borrow.Author.Tests.{eq-eqb, eqb-true}
-use Rattle.ground.specs.Choice.{when◌then◌else◌}
+use Rattle.ground.specs.Choice.{chosen, when◌then◌else◌}
 use Rattle.ground.specs.First.{refusal}
 use Rattle.ground.proofs.Tests.{by_test}
 use Rattle.rules.specs.Supply.{Supply}
@@ -78,11 +78,11 @@ module _ {S N : Type 0} (U : Supply S) (good : N → Bool) where
   taken_rules from_to_console b p no_end = refl
 
   console_does : (e : Console S N) (act : ConsoleAct N) → refusal (console_rules U good e act) ≡ 0 → console_step U good e act ≡ console_acts U e act
-  unfolding console_step when◌then◌else◌
+  unfolding console_step chosen
   console_does e act z = rw (eq-eqb (refusal (console_rules U good e act)) 0 z)
 
   controller_does : (e : Controller S) (act : ControllerAct N) → refusal (controller_rules U e act) ≡ 0 → controller_step U e act ≡ controller_acts U e act
-  unfolding controller_step when◌then◌else◌
+  unfolding controller_step chosen
   controller_does e act z = rw (eq-eqb (refusal (controller_rules U e act)) 0 z)
 
   -- what an end does on the bench it does over the radio
@@ -154,7 +154,7 @@ module _ {S N : Type 0} (U : Supply S) (good : N → Bool) where
 
 -- an action that is not refused: neither by the end that is asked, nor for its place
 staged_passes : (ten : Bool) (end : ℕ) (three nine : Bool) → staged ten end three nine ≡ 0 → (end ≡ 0) × (three ≡ false)
-unfolding when◌then◌else◌
+unfolding chosen
 staged_passes true end three nine e = absurd (omega (arith, e))
 staged_passes false end three nine e = by_test (eqb end 0) (λ t. (eqb-true end 0 t, not_three three (rw t at e))) (λ f. let z : end ≡ 0 = rw f at e in (z, absurd (true≢false (sym (eq-eqb end 0 z) ∙ f))))
   where

@@ -3,7 +3,7 @@ use mathlib.Core.Path.{◌≡◌, refl}
 use mathlib.Core.Bool.{true}
 use mathlib.Core.Option.{some}
 use mathlib.Core.List.{map}
-use Rattle.ground.specs.Choice.{when◌then◌else◌}
+use Rattle.ground.specs.Choice.{chosen}
 use Rattle.rules.specs.Lists.{distinct}
 use Rattle.rules.specs.Letters.{Letter, p_put, q_need, d_data, s_take, c_down, v_back, o_offer, k_ok, r_take, x_down, y_back, l_lose, m_lose, a_ack}
 use Rattle.rules.specs.Letters.{line, letters, among, letter}
@@ -13,7 +13,7 @@ unfolding letters line
 no_byte_twice = refl
 
 pub letter_of_lem : (l : Letter) → letter (line l).byte ≡ some l
-unfolding letter letters among line when◌then◌else◌
+unfolding letter letters among line chosen
 letter_of_lem p_put = refl
 letter_of_lem q_need = refl
 letter_of_lem d_data = refl

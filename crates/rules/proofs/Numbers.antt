@@ -6,7 +6,7 @@ use mathlib.Core.Logic.{◌≢◌}
 use mathlib.Core.Bool.{Bool, true, false, true≢false}
 use mathlib.Core.Option.{Option, none, some}
 use mathlib.Core.List.{List, [], ◌∷◌}
-use Rattle.ground.specs.Choice.{when◌then◌else◌}
+use Rattle.ground.specs.Choice.{chosen}
 use Rattle.ground.specs.First.{applies}
 use Rattle.rules.specs.Supply.{Supply, Lawful}
 use Rattle.rules.specs.Letters.{Letter, p_put, q_need, d_data, s_take, c_down, v_back, o_offer, k_ok, r_take, x_down, y_back, l_lose, m_lose, a_ack}
@@ -121,7 +121,7 @@ module _ {S M : Type 0} (U : Supply S) (good : M → Bool) where
   known used (some (done i)) h = rw h
 
   seven : (b : Bench S M) (l : Letter) (k n : ℕ) (m : M) → UI U b → applies (rules_of U good b (action l k n m)) 7 ≡ false
-  unfolding rules_of applies when◌then◌else◌ line asks end_rules console_rules controller_rules
+  unfolding rules_of applies chosen line asks end_rules console_rules controller_rules
   seven b p_put k n m h = refl
   seven b q_need k n m h = refl
   seven b d_data k n m h = refl

@@ -7,7 +7,7 @@ use mathlib.Core.Option.{Option}
 use mathlib.Core.List.{[], append-nil}
 use lib.Dec.{eqb}
 use borrow.Author.Tests.{eqb-true, not-false}
-use Rattle.ground.specs.Choice.{when◌then◌else◌}
+use Rattle.ground.specs.Choice.{chosen, when◌then◌else◌}
 use Rattle.ground.specs.First.{first, refusal, applies}
 use Rattle.rules.specs.Supply.{Supply, Lawful}
 use Rattle.rules.specs.Letters.{Letter, p_put, q_need, d_data, s_take, c_down, v_back, o_offer, k_ok, r_take, x_down, y_back, l_lose, m_lose, a_ack}
@@ -38,7 +38,7 @@ row_fields n held l x x' y y' c (refused k) = refl
 -- ## A step over the radio: what the end that is asked does, with one copy; or its refusal, which leaves all
 
 none_refuses : {A : Type 0} (x y : A) → (when eqb (refusal []) 0 then x else y) ≡ x
-unfolding refusal first applies when◌then◌else◌
+unfolding refusal first applies chosen
 none_refuses x y = refl
 
 module _ {S M : Type 0} (U : Supply S) (good : M → Bool) (b : Bench S M) where
@@ -79,7 +79,7 @@ module _ {S M : Type 0} (U : Supply S) (laws : Lawful S U) (b : Bench S (Labelle
   -- ## Every letter
 
   does_fine : (l : Letter) → let asked = asks b l x (labelled n c) in refusal (end_rules U good b asked) ≡ 0 → Fine l (does U b 1 asked)
-  unfolding asks effect takes taken_out does end_rules applies when◌then◌else◌ console_rules controller_rules
+  unfolding asks effect takes taken_out does end_rules applies chosen console_rules controller_rules
   does_fine p_put e =
       let rules = console_rules U good b.console (put (labelled n c)) in
       p_keeps U laws b w h k n x 1 c q (not-false _ (passed rules e 4 tt)) (passed rules e 6 tt) (passed rules e 8 tt)

@@ -5,7 +5,7 @@ use mathlib.Core.Path.{◌≡◌, refl}
 use mathlib.Core.Bool.{Bool, true, false}
 use mathlib.Core.List.{List, [], ◌∷◌, ◌++◌}
 use lib.Dec.{eqb}
-use Rattle.ground.specs.Choice.{when◌then◌else◌}
+use Rattle.ground.specs.Choice.{chosen}
 use Rattle.rules.specs.Supply.{counted, numbering, fresh_numbers, numbers_rules}
 use Rattle.rules.specs.Letters.{Letter, p_put, q_need, d_data, s_take, o_offer, r_take, x_down, y_back}
 use Rattle.rules.specs.Bench.{action, rules}
@@ -43,7 +43,7 @@ told_lost = refl
 
 -- the same with numbers in blocks: the controller comes back with all that it had reserved used
 pub old_copy_not_fresh_in_blocks : radio_log numbering any (fresh_numbers 0) (fresh_numbers 0) (delivered_once ++ (restarted ++ heard_again)) ≡ ControllerBack ∷ ControllerDown ∷ Delivered 1 7 ∷ Put 1 7 ∷ []
-unfolding rules numbers_rules when◌then◌else◌ aired keeps fails happens rows_left written
+unfolding rules numbers_rules chosen aired keeps fails happens rows_left written
 old_copy_not_fresh_in_blocks = refl
 
 -- ## A box that breaks the rule: its record is still the one that it started with

@@ -8,7 +8,7 @@ use mathlib.Core.Option.{Option, none, some}
 use mathlib.Core.List.{List, [], ◌∷◌}
 use lib.Dec.{T, eqb}
 use borrow.Author.Tests.{eqb-true, not-false}
-use Rattle.ground.specs.Choice.{when◌then◌else◌}
+use Rattle.ground.specs.Choice.{chosen}
 use Rattle.ground.specs.First.{refusal, applies}
 use Rattle.rules.specs.Supply.{Supply, Lawful}
 use Rattle.rules.specs.Letters.{Letter, p_put, q_need, d_data, s_take, c_down, v_back, o_offer, k_ok, r_take, x_down, y_back, l_lose, m_lose, a_ack, line}
@@ -81,7 +81,7 @@ module _ {S M : Type 0} (U : Supply S) (laws : Lawful S U) (good : M → Bool) w
   -- A is taken from a console that is up and holds none
   a_passed : (b : Bench S (Labelled M)) (x y : ℕ) (m : Labelled M) → refusal (rules_of U fit b (action a_ack x y m)) ≡ 0
       → (b.console.up ≡ true) × (holding b.console.mode ≡ false)
-  unfolding rules_of applies when◌then◌else◌ line asks end_rules console_rules
+  unfolding rules_of applies chosen line asks end_rules console_rules
   a_passed b x y m e =
       let rules = rules_of U fit b (action a_ack x y m) in (not-false _ (passed rules e 4 tt), passed rules e 6 tt)
 

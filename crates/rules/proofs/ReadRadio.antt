@@ -8,7 +8,7 @@ use mathlib.Core.Option.{none, map}
 use mathlib.Core.List.{List, [], ◌∷◌}
 use lib.Dec.{T, eqb}
 use borrow.Author.Tests.{eqb-true, not-false}
-use Rattle.ground.specs.Choice.{when◌then◌else◌}
+use Rattle.ground.specs.Choice.{chosen}
 use Rattle.ground.specs.First.{refusal, applies}
 use Rattle.rules.specs.Supply.{Supply, Lawful}
 use Rattle.rules.specs.Letters.{Letter, a_ack, line}
@@ -44,7 +44,7 @@ module _ {S M : Type 0} (U : Supply S) (laws : Lawful S U) (good : M → Bool) w
   -- A is taken from a console that is up and holds none
   a_idle : (h : Log M) (l : Link S (Labelled M)) (x : ℕ) (m : Labelled M) → Follows U laws good h l
       → refusal (end_rules U (fit good) l.bench (asks l.bench a_ack x m)) ≡ 0 → T (console_up h) × (waiting h ≡ none)
-  unfolding applies when◌then◌else◌ line asks end_rules console_rules
+  unfolding applies chosen line asks end_rules console_rules
   a_idle h l x m f e =
       let rules = end_rules U (fit good) l.bench (asks l.bench a_ack x m) in
       let u = not-false _ (passed rules e 4 tt) in

@@ -6,7 +6,7 @@ use mathlib.Core.Bool.{Bool, true, false, ◌||◌, true≢false}
 use mathlib.Core.List.{List, [], ◌∷◌, map}
 use lib.Dec.{T, eqb}
 use borrow.Author.Tests.{eqb-true, eqb-false}
-use Rattle.ground.specs.Choice.{when◌then◌else◌}
+use Rattle.ground.specs.Choice.{chosen, when◌then◌else◌}
 use Rattle.ground.specs.First.{Rule, first, refusal_order, applies, refusal}
 use Rattle.rules.specs.Lists.{listed}
 
@@ -20,7 +20,7 @@ module _ (f : ℕ → Bool) where
   looked_at ns = map (λ n. (n, f n)) ns
 
   none_applies : (ns : List ℕ) → listed 0 ns ≡ false → first (looked_at ns) ≡ 0 → (k : ℕ) → T (listed k ns) → f k ≡ false
-  unfolding first when◌then◌else◌
+  unfolding first chosen
   none_applies [] z e k h = absurd h
   none_applies (n ∷ ns) z e k h = test (f n) refl (eqb k n) refl e h (λ z e h. none_applies ns z e k h)
     where
@@ -31,7 +31,7 @@ module _ (f : ℕ → Bool) where
       test false q false p e h more = more (neither (eqb 0 n) (listed 0 ns) z).1 e h
 
   one_applies : (ns : List ℕ) (k : ℕ) → first (looked_at ns) ≡ k → k ≢ 0 → f k ≡ true
-  unfolding first when◌then◌else◌
+  unfolding first chosen
   one_applies [] k e z = absurd (z (sym e))
   one_applies (n ∷ ns) k e z = test (f n) refl e (λ e. one_applies ns k e z)
     where

@@ -6,7 +6,7 @@ use mathlib.Core.Option.{Option, none, some}
 use mathlib.Core.List.{List}
 use lib.Dec.{T, eqb}
 use borrow.Author.Tests.{eqb-true, not-false}
-use Rattle.ground.specs.Choice.{when◌then◌else◌}
+use Rattle.ground.specs.Choice.{chosen}
 use Rattle.ground.specs.First.{Rule, refusal, applies}
 use Rattle.rules.specs.Supply.{Supply, Lawful}
 use Rattle.rules.specs.Letters.{Letter, p_put, q_need, d_data, s_take, c_down, v_back, o_offer, k_ok, r_take, x_down, y_back, l_lose, m_lose, a_ack}
@@ -323,7 +323,7 @@ module _ {S M : Type 0} (U : Supply S) (laws : Lawful S U) (b : Bench S (Labelle
       rules_for l = rules_of U good b (in_action (labelled n) (action l x y c))
 
       effect_keeps : (l : Letter) → refusal (rules_for l) ≡ 0 → Keeps l
-      unfolding rules_of applies when◌then◌else◌ line asks end_rules console_rules controller_rules effect takes taken_out does
+      unfolding rules_of applies chosen line asks end_rules console_rules controller_rules effect takes taken_out does
       effect_keeps p_put e =
           p_keeps q (not-false _ (passed (rules_for p_put) e 4 tt)) (passed (rules_for p_put) e 6 tt) (passed (rules_for p_put) e 8 tt)
       effect_keeps q_need e = q_keeps

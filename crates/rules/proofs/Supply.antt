@@ -7,12 +7,12 @@ use lib.Dec.{eqb, leb}
 use borrow.Author.Tests.{eqb-true, eqb-false, ne_eqb, leb-true, le-leb, lt-leb}
 use native.Mathlib.Omega.{arith}
 use Rattle.ground.specs.Block.{is_block, largest_block}
-use Rattle.ground.specs.Choice.{when◌then◌else◌}
+use Rattle.ground.specs.Choice.{chosen, when◌then◌else◌}
 use Rattle.ground.proofs.Tests.{by_test, and_left, and_right, and_both}
 use Rattle.rules.specs.Supply.{Lawful, largest, next_counted, counted, Blocks, lesser, greater, grown, blocks, Numbers, numbering, stored, fresh_numbers}
 
 next_is : (last n : ℕ) → next_counted last ≡ some n → (n ≡ suc last) × (last ≡ largest → ⊥)
-unfolding next_counted when◌then◌else◌
+unfolding next_counted chosen
 next_is last n e = test (eqb last largest) refl e
   where
     test : (c : Bool) → eqb last largest ≡ c → (when c then none else some (suc last)) ≡ some n → (n ≡ suc last) × (last ≡ largest → ⊥)
@@ -36,11 +36,11 @@ counted_lawful =
 -- ## In blocks
 
 greater_left : (m n k : ℕ) → k ≤ m → k ≤ greater m n
-unfolding greater when◌then◌else◌
+unfolding greater chosen
 greater_left m n k h = by_test (leb m n) (λ t. rw t (omega (arith, h, leb-true m n t))) (λ f. rw f h)
 
 greater_below : (m n : ℕ) → m ≤ n → greater m n ≡ n
-unfolding greater when◌then◌else◌
+unfolding greater chosen
 greater_below m n h = rw (le-leb m n h)
 
 -- what sound numbers are
@@ -84,12 +84,12 @@ back_is_reserved s h = λ i. record { last = greater_below s.last s.reserved (so
 
 -- taking a number leaves what is reserved unless all of it is used
 pub reserved_stays : (s : Blocks) → (s.last ≡ s.reserved → ⊥) → (blocks.take s).reserved ≡ s.reserved
-unfolding grown when◌then◌else◌
+unfolding grown chosen
 reserved_stays s h = rw (ne_eqb s.last s.reserved h)
 
 -- a number that is taken is reserved, and no more than the largest are
 pub grown_fits : (s : Blocks) → Sound s → (s.last ≡ largest → ⊥) → (suc s.last ≤ grown s) × (grown s ≤ largest)
-unfolding grown lesser when◌then◌else◌
+unfolding grown lesser chosen
 grown_fits s h e =
     let k = h.below in
     let m = h.most in
@@ -120,7 +120,7 @@ blocks_lawful =
 
 -- coming back once more changes nothing
 pub back_again : (s : Blocks) → blocks.back (blocks.back s) ≡ blocks.back s
-unfolding greater when◌then◌else◌
+unfolding greater chosen
 back_again s =
     by_test (leb s.last s.reserved) (λ t. rw (t, le-leb s.reserved s.reserved (omega arith))) (λ f. rw (f, f))
 

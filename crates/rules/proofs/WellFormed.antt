@@ -8,7 +8,7 @@ use lib.ListN.{length, length-append}
 use lib.Dec.{eqb}
 use borrow.Author.Tests.{eqb-true, ltb-false, not-false}
 use native.Mathlib.Omega.{arith}
-use Rattle.ground.specs.Choice.{when◌then◌else◌}
+use Rattle.ground.specs.Choice.{chosen}
 use Rattle.ground.specs.First.{refusal, applies}
 use Rattle.rules.specs.Supply.{Supply, Lawful}
 use Rattle.rules.specs.Letters.{Letter, p_put, q_need, d_data, s_take, c_down, v_back, o_offer, k_ok, r_take, x_down, y_back, l_lose, m_lose, a_ack}
@@ -48,7 +48,7 @@ module _ {S M : Type 0} (U : Supply S) (laws : Lawful S U) where
     -- the message of a put that is not refused is good
     handed_good : (F G : ℕ → Type 0) (act : ConsoleAct M) → refusal (console_rules U good e act) ≡ 0 → ConsoleActBears F G Any act
         → ConsoleActBears F G (Good good) act
-    unfolding console_rules applies when◌then◌else◌
+    unfolding console_rules applies chosen
     handed_good F G (put m) q h = not-false (good m) (passed (console_rules U good e (put m)) q 11 tt)
     handed_good F G send_need_i q h = tt
     handed_good F G send_data q h = tt
@@ -119,12 +119,12 @@ module _ {S M : Type 0} (U : Supply S) (b : Bench S M) where
 module _ {S M : Type 0} (U : Supply S) (laws : Lawful S U) (good : M → Bool) where
   -- the message of a put that is not refused is good
   put_good : (b : Bench S M) (l : Letter) (k n : ℕ) (m : M) → refusal (rules_of U good b (action l k n m)) ≡ 0 → l ≡ p_put → Good good m
-  unfolding rules_of applies when◌then◌else◌ line asks end_rules console_rules
+  unfolding rules_of applies chosen line asks end_rules console_rules
   put_good b l k n m e q = not-false (good m) (passed (rules_of U good b (action p_put k n m)) (rw q at e) 11 tt)
 
   effect_well_formed : (b : Bench S M) (a : Action M) → refusal (rules_of U good b a) ≡ 0 → WellFormed U good b
       → WellFormed U good (effect U b a).after
-  unfolding rules_of applies when◌then◌else◌
+  unfolding rules_of applies chosen
   effect_well_formed b a e h =
       let d = effect_bears (Sound U) (Sound U) (Given U) (λ _. Number U) (Given U) (λ _. Number U) (Good good) U (given_tracked U laws) (given_tracked U laws) b a
       (record {

@@ -2,7 +2,7 @@
 -- places and copies. Over messages of any type M and any supply of numbers. Assumes nothing.
 use Rattle.std.specs.Prelude.{ℕ, Bool, true, false, not, List, [], ◌∷◌, eqb}
 use Rattle.std.proofs.Math.Option.{Option, none, some}
-use Rattle.ground.specs.Choice.{when◌then◌else◌}
+use Rattle.ground.specs.Choice.{chosen, when◌then◌else◌}
 use Rattle.ground.specs.First.{Rule, first, applies, refusal}
 use Rattle.rules.specs.Supply.{Supply}
 
@@ -294,7 +294,7 @@ module _ {S M : Type 0} (U : Supply S) where
 
 -- for proofs: `unfolding ends` opens every definition of the ends' rules
 unfoldable pub ends : Unit {0}
-unfolding when◌then◌else◌ first applies refusal puts need_i_sent data_sent console_takes controller_takes offer_sent ok_sent
+unfolding chosen first applies refusal puts need_i_sent data_sent console_takes controller_takes offer_sent ok_sent
     console_turn controller_turn up_after numbers_after end_after absent holding unknown console_rules controller_rules
     console_acts controller_acts console_step controller_step
 ends = tt

@@ -1,7 +1,6 @@
 pub mod Determined
 pub mod LentParts
 pub mod Places
-pub mod ShowPromise
 pub mod Showing
 pub mod Taking
 pub mod Vectors

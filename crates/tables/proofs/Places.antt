@@ -1,16 +1,9 @@
 -- The laws of places: a list of records and its table, for records of any kind.
-use Prim.Native.Nat.{ℕ, zero, suc, ◌+◌, ◌-◌, ◌*◌, ◌≤◌, ◌<◌}
-use mathlib.Core.Path.{◌≡◌, refl, sym, ap, subst, ◌∙◌}
-use mathlib.Core.List.{List, [], ◌∷◌, ◌++◌, append-nil, append_assoc}
-use mathlib.Core.Bool.{true}
+use Rattle.std.proofs.Common.{ℕ, zero, suc, ◌+◌, ◌-◌, ◌*◌, ◌≤◌, ◌<◌, ◌≡◌, refl, sym, ap, subst, ◌∙◌, List, [], ◌∷◌, ◌++◌, append-nil, append_assoc, true, arith, le-leb, lt-ltb, eqb-true, leb-true, ltb-true, ltb-false, length, take, drop, replicate, length-append, take_at, drop_at, drop-drop, eqb, leb, ltb}
 use mathlib.Core.Option.{some}
-use native.Mathlib.Omega.{arith}
-use borrow.Author.Tests.{le-leb, lt-ltb, eqb-true, leb-true, ltb-true, ltb-false}
-use lib.ListN.{length, take, drop, replicate, length-append, length-replicate, replicate-append-replicate}
-use lib.Seq.{take_at, drop_at, drop-drop}
-use lib.Dec.{eqb, leb, ltb}
+use lib.ListN.{length-replicate, replicate-append-replicate}
 use Rattle.ground.specs.Bytes.{field}
-use Rattle.ground.specs.Choice.{when◌then◌else◌}
+use Rattle.ground.specs.Choice.{chosen}
 use Rattle.ground.specs.Lists.{at, without, All}
 use Rattle.ground.proofs.Lists.{Split, split, some_is, at_below, without_beyond, all_before, all_behind}
 use Rattle.ground.proofs.Tests.{by_test, and_left, and_right}
@@ -134,7 +127,7 @@ module _ {A : Type 0} {bytes : A → List ℕ} {reads : List ℕ → A} {Ok : A 
   -- ## A record taken out
 
   taken_there : (ps : List A) (k : ℕ) → All Ok ps → length ps ≤ 64 → k < length ps → taken_out (table_of bytes ps) (length ps) k ≡ table_of bytes (without ps k)
-  unfolding taken_out table_of laid when◌then◌else◌
+  unfolding taken_out table_of laid chosen
   taken_there ps k h m b =
       let s = split ps k b in
       let n = length ps in

@@ -1,49 +1,51 @@
--- Showing: the refusals, what a refusal of 0 says, and the part by the refusal.
-use Prim.Native.Nat.{ℕ, ◌+◌, ◌*◌, ◌≤◌, ◌<◌}
-use mathlib.Core.Path.{◌≡◌, refl}
-use mathlib.Core.List.{List, []}
-use mathlib.Core.Bool.{◌&&◌}
-use native.Mathlib.Omega.{arith}
-use borrow.Author.Tests.{ne_eqb, le-leb, lt-leb, lt-ltb, le-ltb, ltb-true}
-use lib.ListN.{length}
-use lib.Dec.{ltb}
-use Rattle.ground.specs.Choice.{when◌then◌else◌}
+-- Showing: the refusals, and what it says that there is none.
+use Rattle.std.proofs.Common.{ℕ, ◌≤◌, ◌<◌, ◌≡◌, refl, sym, ap, ◌∙◌, List, [], ◌&&◌, arith, ne_eqb, le-leb, lt-ltb, le-ltb, ltb-true, length, ltb, Ok, Err, Bor}
+use Rattle.std.proofs.lemmas.Bool.{lt-leb}
+use Rattle.ground.specs.Choice.{chosen}
 use Rattle.ground.specs.First.{first}
+use Rattle.ground.specs.Refusals.{number_of, refused_by, refusal_in}
+use Rattle.ground.specs.declared.refusals.Refusal.{Refusal}
 use Rattle.ground.proofs.First.{none_wanting}
+use Rattle.ground.proofs.RefusalNumbers.{first_comes_back, passes}
 use Rattle.ground.proofs.Tests.{and_left, and_right}
 use Rattle.tables.specs.declared.shown.Way.{Way}
 use Rattle.tables.specs.declared.shown.Way.TheVariants.{Out, Back}
-use Rattle.tables.specs.Table.{is_table, bytes_at}
-use Rattle.tables.specs.Shown.{asked, show_refusal, shown, shown_at}
+use Rattle.tables.specs.Table.{is_table}
+use Rattle.tables.specs.Shown.{asked, show_refusal, part_at, showing}
 use Rattle.tables.proofs.Places.{is_long, is_few}
 
 -- the refusals in their order, from the tests that lead to them
 module _ (way : Way) (place : ℕ) (out : List ℕ) (sent : ℕ) (back : List ℕ) (returned : ℕ) where
-  pub out_short : (length out ≡ 2048 → ⊥) → 2 ≡ show_refusal way place out sent back returned
-  unfolding show_refusal first when◌then◌else◌
+  pub out_short : (length out ≡ 2048 → ⊥) → show_refusal way place out sent back returned ≡ 2
+  unfolding show_refusal first chosen
   out_short h = rw (ne_eqb (length out) 2048 h)
 
-  pub sent_many : length out ≡ 2048 → 64 < sent → 2 ≡ show_refusal way place out sent back returned
-  unfolding show_refusal first when◌then◌else◌
+  pub sent_many : length out ≡ 2048 → 64 < sent → show_refusal way place out sent back returned ≡ 2
+  unfolding show_refusal first chosen
   sent_many l h = rw (l, lt-leb sent 64 h)
 
   module _ (l : length out ≡ 2048) (h : sent ≤ 64) where
-    pub back_short : (length back ≡ 2048 → ⊥) → 2 ≡ show_refusal way place out sent back returned
-    unfolding show_refusal first when◌then◌else◌
+    pub back_short : (length back ≡ 2048 → ⊥) → show_refusal way place out sent back returned ≡ 2
+    unfolding show_refusal first chosen
     back_short m = rw (l, le-leb sent 64 h, ne_eqb (length back) 2048 m)
 
-    pub returned_many : length back ≡ 2048 → 64 < returned → 2 ≡ show_refusal way place out sent back returned
-    unfolding show_refusal first when◌then◌else◌
+    pub returned_many : length back ≡ 2048 → 64 < returned → show_refusal way place out sent back returned ≡ 2
+    unfolding show_refusal first chosen
     returned_many m k = rw (l, le-leb sent 64 h, m, lt-leb returned 64 k)
 
     module _ (m : length back ≡ 2048) (k : returned ≤ 64) {n : ℕ} (e : n ≡ asked way sent returned) where
-      pub none_there : n ≤ place → 3 ≡ show_refusal way place out sent back returned
-      unfolding show_refusal first when◌then◌else◌
+      pub none_there : n ≤ place → show_refusal way place out sent back returned ≡ 3
+      unfolding show_refusal first chosen
       none_there j = rw (l, le-leb sent 64 h, m, le-leb returned 64 k, ← e, le-ltb place n j)
 
-      pub one_there : place < n → 0 ≡ show_refusal way place out sent back returned
-      unfolding show_refusal first when◌then◌else◌
+      pub one_there : place < n → show_refusal way place out sent back returned ≡ 0
+      unfolding show_refusal first chosen
       one_there j = rw (l, le-leb sent 64 h, m, le-leb returned 64 k, ← e, lt-ltb place n j)
+
+  -- the number of the refusal that comes of it
+  pub show_refusal_number : (r : Refusal) → Err r ≡ refused_by (show_refusal way place out sent back returned) → number_of r ≡ show_refusal way place out sent back returned
+  unfolding show_refusal
+  show_refusal_number r e = ap refusal_in e ∙ first_comes_back _ refl
 
 pub ruleset show_refusals = (out_short, sent_many, back_short, returned_many, none_there, one_there)
 
@@ -72,19 +74,18 @@ module _ (way : Way) (place : ℕ) (out : List ℕ) (sent : ℕ) (back : List �
         least = below way place sent returned (is_few (length out) sent x) (is_few (length back) returned y) (ltb-true place (asked way sent returned) b.0);
       }
 
-  pub shown_none : (show_refusal way place out sent back returned ≡ 0 → ⊥) → [] ≡ shown way place out sent back returned
-  unfolding shown when◌then◌else◌
-  shown_none h = rw (ne_eqb (show_refusal way place out sent back returned) 0 h)
+-- the same from the call that found no refusal, of the table that was asked for
+module _ (way : Way) (place : ℕ) (out : Bor (List ℕ)) (sent : ℕ) (back : Bor (List ℕ)) (returned : ℕ) (granted : Ok tt ≡ refused_by (show_refusal way place out.now sent back.now returned)) where
+  pub place_least : place < 64
+  place_least = (showable way place out.now sent back.now returned (passes _ (sym granted))).least
 
-  pub shown_some : show_refusal way place out sent back returned ≡ 0 → bytes_at (asked way out back) place ≡ shown way place out sent back returned
-  unfolding shown when◌then◌else◌
-  shown_some h = rw h
+  pub asked_long : length (asked way out back).now ≡ 2048
+  asked_long =
+      let s = showable way place out.now sent back.now returned (passes _ (sym granted)) in
+      elim way as (λ w. length (asked w out back).now ≡ 2048) [ Out ↦ s.out_long | Back ↦ s.back_long ]
 
-  module _ (p q : ℕ × ℕ) where
-    pub at_none : (show_refusal way place out sent back returned ≡ 0 → ⊥) → p ≡ shown_at way place out sent back returned p q
-    unfolding shown_at when◌then◌else◌
-    at_none h = rw (ne_eqb (show_refusal way place out sent back returned) 0 h)
+  pub shown_is : showing way place out sent back returned ≡ Ok (part_at (asked way out back) place)
+  unfolding showing
+  shown_is = rw (passes _ (sym granted))
 
-    pub at_some : show_refusal way place out sent back returned ≡ 0 → ((asked way p q).0, place * 32 + (asked way p q).1) ≡ shown_at way place out sent back returned p q
-    unfolding shown_at when◌then◌else◌
-    at_some h = rw h
+pub ruleset shows = (place_least, asked_long, shown_is)

@@ -1,9 +1,9 @@
 -- Showing what a place holds: the refusal, the bytes, and where they lie. Assumes nothing.
-use Rattle.std.specs.Prelude.{ℕ, ◌+◌, ◌*◌, not, ◌&&◌, List, [], ◌∷◌, length, eqb, ltb}
-use Rattle.ground.specs.Choice.{when◌then◌else◌}
+use Rattle.std.specs.Prelude.{ℕ, ◌+◌, ◌*◌, not, ◌&&◌, List, [], ◌∷◌, length, ltb, Result}
 use Rattle.ground.specs.First.{first}
+use Rattle.ground.specs.Refusals.{unless_refused}
+use Rattle.ground.specs.declared.refusals.Refusal.{Refusal}
 use Rattle.std.specs.Borrow.{Bor}
-use Rattle.tables.specs.declared.shown.Shown.{Shown}
 use Rattle.tables.specs.declared.shown.Way.{Way}
 use Rattle.tables.specs.declared.shown.Way.TheVariants.{Out, Back}
 use Rattle.tables.specs.Table.{is_table, bytes_at}
@@ -21,29 +21,13 @@ show_refusal way place out sent back returned =
     ∷ (3, not (ltb place (asked way sent returned)))
     ∷ [])
 
--- the 32 bytes at the place; an empty part on a refusal
-unfoldable pub shown : Way → ℕ → List ℕ → ℕ → List ℕ → ℕ → List ℕ
-shown way place out sent back returned =
-    when eqb (show_refusal way place out sent back returned) 0 then bytes_at (asked way out back) place else []
+-- the 32 bytes at a place, in the table itself: a block, and an offset in it
+abbrev pub part_at : Bor (List ℕ) → ℕ → Bor (List ℕ)
+part_at table place = record { ref_ptr = (table.ref_ptr.0, place * 32 + table.ref_ptr.1); now = bytes_at table.now place }
 
--- a block, and an offset in it: the part lies in the table that was asked for, an empty one at the start of the first
-unfoldable pub shown_at : Way → ℕ → List ℕ → ℕ → List ℕ → ℕ → ℕ × ℕ → ℕ × ℕ → ℕ × ℕ
-shown_at way place out sent back returned p q =
-    when eqb (show_refusal way place out sent back returned) 0 then ((asked way p q).0, place * 32 + (asked way p q).1) else p
-
--- ## What a caller has of it: the refusal, the part's bytes, and where they lie
-
-pub record Seen : Type 0 where
-  pub refusal : ℕ
-  pub bytes : List ℕ
-  pub at : ℕ × ℕ
-
-abbrev pub seen : Shown → Seen
-seen s = record { refusal = s.refusal; bytes = s.part.now; at = s.part.ref_ptr }
-
-unfoldable pub showing : Way → ℕ → Bor (List ℕ) → ℕ → Bor (List ℕ) → ℕ → Seen
-showing way place out sent back returned = record {
-  refusal = show_refusal way place out.now sent back.now returned;
-  bytes = shown way place out.now sent back.now returned;
-  at = shown_at way place out.now sent back.now returned out.ref_ptr back.ref_ptr;
-}
+-- the part of the table that was asked for, or the refusal
+unfoldable pub showing : Way → ℕ → Bor (List ℕ) → ℕ → Bor (List ℕ) → ℕ → Result (Bor (List ℕ)) Refusal
+showing way place out sent back returned =
+    unless_refused
+    (show_refusal way place out.now sent back.now returned)
+    (part_at (asked way out back) place)

@@ -1,6 +1,9 @@
 // Showing what a place holds: a part of one of two tables, in the table itself.
 ghost use Rattle.std.specs.Prelude.{◌≡◌};
-ghost use Rattle.tables.specs.Shown.{asked, show_refusal, shown, shown_at, seen, showing};
+ghost use Rattle.ground.specs.Refusals.{refused_by};
+ghost use Rattle.tables.specs.Shown.{asked, show_refusal, showing};
+
+use ground::Refusal;
 
 // Which of the two tables: that of the way out, or that of the way back.
 #[derive(Clone, Copy)]
@@ -9,22 +12,17 @@ pub enum Way {
     Back,
 }
 
-#[derive(Drop)]
-pub struct Shown<'a> {
-    pub refusal: u8,
-    pub part: &'a [u8],
-}
-
-fn asked_count(way: Way, sent: usize, returned: usize) -> usize
-    ensures { result ≡ asked way sent returned }
+fn asked<T: Copy>(way: Way, out: T, back: T) -> T
+    ensures { result ≡ asked way out back }
 {
     match way {
-        Way::Out => sent,
-        Way::Back => returned,
+        Way::Out => out,
+        Way::Back => back,
     }
 }
 
 // `sent` is the count of `out`, `returned` that of `back`.
+#[tactic(auto, using(crate::proofs::Showing::show_refusals))]
 pub fn show_refusal(
     way: Way,
     place: usize,
@@ -32,51 +30,20 @@ pub fn show_refusal(
     sent: usize,
     back: &[u8],
     returned: usize,
-) -> u8
-    ensures { result ≡ show_refusal way place out.now sent back.now returned }
+) -> Result<(), Refusal>
+    ensures { result ≡ refused_by (show_refusal way place out.now sent back.now returned) }
 {
-    if out.len() != 2048 {
-        return 2;
+    if out.len() != 2048 || sent > 64 || back.len() != 2048 || returned > 64 {
+        return Err(Refusal::IllFormed);
     }
-    if 64 < sent {
-        return 2;
+    if place >= asked(way, sent, returned) {
+        return Err(Refusal::NoPlace);
     }
-    if back.len() != 2048 {
-        return 2;
-    }
-    if 64 < returned {
-        return 2;
-    }
-    if place < asked_count(way, sent, returned) {
-        0
-    } else {
-        3
-    }
+    Ok(())
 }
 
-// The 32 bytes at the place, or on a refusal the empty part at the start of `out`.
-fn shown_part<'a>(
-    way: Way,
-    place: usize,
-    out: &'a [u8],
-    sent: usize,
-    back: &'a [u8],
-    returned: usize,
-) -> &'a [u8]
-    ensures { (result.now ≡ shown way place out.now sent back.now returned) × (result.ref_ptr ≡ shown_at way place out.now sent back.now returned out.entry.ref_ptr back.entry.ref_ptr) }
-{
-    if show_refusal(way, place, out, sent, back, returned) != 0 {
-        return &out[..0];
-    }
-    let at = place * 32;
-    let end = at + 32;
-    match way {
-        Way::Out => &out[at..end],
-        Way::Back => &back[at..end],
-    }
-}
-
-// The number, 0 where the place is shown, with the part: on a refusal an empty one.
+// The 32 bytes at the place.
+#[tactic(auto, using(crate::proofs::Showing::shows))]
 pub fn show<'a>(
     way: Way,
     place: usize,
@@ -84,11 +51,11 @@ pub fn show<'a>(
     sent: usize,
     back: &'a [u8],
     returned: usize,
-) -> Shown<'a>
-    ensures { seen result ≡ showing way place out.entry sent back.entry returned }
+) -> Result<&'a [u8], Refusal>
+    ensures { result ≡ showing way place out.entry sent back.entry returned }
 {
-    Shown {
-        refusal: show_refusal(way, place, out, sent, back, returned),
-        part: shown_part(way, place, out, sent, back, returned),
-    }
+    show_refusal(way, place, out, sent, back, returned)?;
+    let table = asked(way, out, back);
+    let at = place * 32;
+    Ok(&table[at..at + 32])
 }

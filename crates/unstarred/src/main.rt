@@ -2,24 +2,11 @@
 #![tactic(auto)]
 
 use bench::{Action, Bench};
-use ends::Report;
-use wire::{I, J, ReadHead};
+use ground::Refusal;
+use wire::{I, J};
 
-fn refusal_of(report: Report) -> u64 {
-    match report {
-        Report::Nothing => 0,
-        Report::Delivered => 0,
-        Report::Ok => 0,
-        Report::Lost => 0,
-        Report::Refused(n) => n as u64,
-    }
-}
-
-fn refusal_read(head: ReadHead) -> u64 {
-    match head {
-        ReadHead::Refused(n) => n as u64,
-        ReadHead::Is(_) => 0,
-    }
+fn number_of(refusal: Option<Refusal>) -> u64 {
+    refusal.map_or(0, |refusal| u64::from(u8::from(refusal)))
 }
 
 fn tell(check: &[u8], n: u64) {
@@ -41,19 +28,16 @@ fn action(letter: u8, place: usize, copies: usize, first: u8) -> Action {
 }
 
 fn fresh(out: &mut [u8], back: &mut [u8]) -> Bench {
-    let begun = bench::fresh(J(0), I(0), out, back);
-    begun.bench
+    bench::fresh(J(0), I(0), out, back).bench
 }
 
 fn after(b: Bench, a: Action, out: &mut [u8], back: &mut [u8]) -> Bench {
-    let outcome = bench::step(b, a, out, back);
-    outcome.bench
+    bench::step(b, a, out, back).bench
 }
 
 fn tell_step(check: &[u8], b: Bench, a: Action, out: &mut [u8], back: &mut [u8]) {
     let outcome = bench::step(b, a, out, back);
-    let report = outcome.report;
-    tell(check, refusal_of(report));
+    tell(check, number_of(outcome.report.refusal()));
 }
 
 // An action on a fresh bench, whose channels are empty.
@@ -67,10 +51,8 @@ fn try_fresh(check: &[u8], a: Action) {
 // The bench after 21 times three copies and one: 64 packets.
 fn sent_64(b: Bench, letter: u8, out: &mut [u8], back: &mut [u8]) -> Bench {
     let mut full = b;
-    let mut times: usize = 0;
-    while times < 21 {
+    for _ in 0..21 {
         full = after(full, action(letter, 0, 3, 0x20), out, back);
-        times += 1;
     }
     after(full, action(letter, 0, 1, 0x20), out, back)
 }
@@ -159,8 +141,8 @@ fn try_record(check: &[u8], record: &[u8]) {
 }
 
 fn try_packet(check: &[u8], packet: &[u8]) {
-    let head = wire::read_packet(packet).head;
-    tell(check, refusal_read(head));
+    let read = wire::read_packet(packet);
+    tell(check, number_of(read.err()));
 }
 
 fn main() {

@@ -4,11 +4,11 @@ use mathlib.Core.Path.{◌≡◌, refl, sym, ap, ◌∙◌}
 use mathlib.Core.Bool.{true, false, true≢false, false≢true}
 use mathlib.Core.List.{List}
 use lib.ListN.{set}
+use Rattle.std.specs.Prelude.{Ok}
 use Rattle.ground.specs.Bytes.{Bytes}
-use Rattle.ground.specs.Choice.{when◌then◌else◌}
+use Rattle.ground.specs.Choice.{chosen}
 use Rattle.wire.specs.declared.NumberRecord.{NumberRecord}
 use Rattle.wire.specs.declared.NumberRecord.TheVariants.{ConsoleOld, ControllerOld, Console, Controller}
-use Rattle.wire.specs.declared.ReadRecord.TheVariants.{Is}
 use Rattle.wire.specs.Number.{bytes_of}
 use Rattle.wire.specs.Record.{is_old, end_of, number_of, block_of, is_block, is_good, record_bytes, record_read, renewed, aged}
 use Rattle.wire.proofs.RecordTrips.{loaded, record_read_back}
@@ -16,7 +16,7 @@ use Rattle.wire.proofs.RecordTrips.{loaded, record_read_back}
 -- t is what s, which is accepted, is carried to
 pub record Carried (change : NumberRecord → NumberRecord) (s t : List ℕ) : Type 0 where
   pub from : NumberRecord
-  pub accepted : record_read s ≡ Is from
+  pub accepted : record_read s ≡ Ok from
   pub to : t ≡ record_bytes (change from)
 
 -- bytes 12 and 13, the block, made 64
@@ -69,10 +69,10 @@ aged_old (Controller i b) = refl
 pub renewed_block : (r : NumberRecord) → is_good r ≡ true → is_block (block_of (renewed r)) ≡ true
 renewed_block r g = rw (renewed_new r) at (renewed_good r g)
 
-pub renewed_read : (r : NumberRecord) → number_of r < 2 ^ 32 → is_good r ≡ true → record_read (record_bytes (renewed r)) ≡ Is (renewed r)
+pub renewed_read : (r : NumberRecord) → number_of r < 2 ^ 32 → is_good r ≡ true → record_read (record_bytes (renewed r)) ≡ Ok (renewed r)
 renewed_read r t g = record_read_back (renewed r) (rw (renewed_number r) t) (renewed_good r g)
 
-pub aged_read : (r : NumberRecord) → number_of r < 2 ^ 32 → record_read (record_bytes (aged r)) ≡ Is (aged r)
+pub aged_read : (r : NumberRecord) → number_of r < 2 ^ 32 → record_read (record_bytes (aged r)) ≡ Ok (aged r)
 aged_read r t = record_read_back (aged r) (rw (aged_number r) t) (aged_good r)
 
 -- ## Old to new to old
@@ -83,7 +83,7 @@ aged_renewed (ControllerOld i) o = refl
 aged_renewed (Console j b) o = absurd (false≢true o)
 aged_renewed (Controller i b) o = absurd (false≢true o)
 
-module _ (s : List ℕ) (bytes : Bytes s) {r : NumberRecord} (read : record_read s ≡ Is r) (old : is_old r ≡ true) where
+module _ (s : List ℕ) (bytes : Bytes s) {r : NumberRecord} (read : record_read s ≡ Ok r) (old : is_old r ≡ true) where
   pub old_new : Carried renewed s (record_bytes (renewed r))
   old_new = record { from = r; accepted = read; to = refl }
 
@@ -95,20 +95,20 @@ module _ (s : List ℕ) (bytes : Bytes s) {r : NumberRecord} (read : record_read
 -- ## New to old to new
 
 renewed_aged : (r : NumberRecord) → is_old r ≡ false → record_bytes (renewed (aged r)) ≡ with_64 (record_bytes r)
-unfolding record_bytes bytes_of when◌then◌else◌
+unfolding record_bytes bytes_of chosen
 renewed_aged (ConsoleOld j) o = absurd (true≢false o)
 renewed_aged (ControllerOld i) o = absurd (true≢false o)
 renewed_aged (Console j b) o = refl
 renewed_aged (Controller i b) o = refl
 
 same_64 : (r : NumberRecord) → is_old r ≡ false → block_of r ≡ 64 → with_64 (record_bytes r) ≡ record_bytes r
-unfolding record_bytes bytes_of when◌then◌else◌
+unfolding record_bytes bytes_of chosen
 same_64 (ConsoleOld j) o e = absurd (true≢false o)
 same_64 (ControllerOld i) o e = absurd (true≢false o)
 same_64 (Console j b) o e = rw e
 same_64 (Controller i b) o e = rw e
 
-module _ (s : List ℕ) (bytes : Bytes s) {r : NumberRecord} (read : record_read s ≡ Is r) (new : is_old r ≡ false) where
+module _ (s : List ℕ) (bytes : Bytes s) {r : NumberRecord} (read : record_read s ≡ Ok r) (new : is_old r ≡ false) where
   pub new_old : Carried aged s (record_bytes (aged r))
   new_old = record { from = r; accepted = read; to = refl }
 

@@ -21,22 +21,28 @@ use Rattle.wire.proofs.frame.big_endian_16.Kinds as big-endian-16-kinds
 use Rattle.wire.proofs.frame.big_endian_16.Reads as big-endian-16
 use Rattle.wire.proofs.frame.from_big_endian_16.Kinds as from-big-endian-16-kinds
 use Rattle.wire.proofs.frame.from_big_endian_16.Reads as from-big-endian-16
-use Rattle.wire.proofs.packets.head_of.Kinds as head-of-kinds
-use Rattle.wire.proofs.packets.head_of.Reads as head-of
-use Rattle.wire.proofs.records.end_of.Kinds as end-of-kinds
-use Rattle.wire.proofs.records.end_of.Reads as end-of
-use Rattle.wire.proofs.records.number_of.Kinds as number-of-kinds
-use Rattle.wire.proofs.records.number_of.Reads as number-of
-use Rattle.wire.proofs.records.block_of.Kinds as block-of-kinds
-use Rattle.wire.proofs.records.block_of.Reads as block-of
-use Rattle.wire.proofs.records.record_of.Kinds as record-of-kinds
-use Rattle.wire.proofs.records.record_of.Reads as record-of
+use Rattle.wire.proofs.packets.HeadTryFromFields.try_from.Kinds as head-of-kinds
+use Rattle.wire.proofs.packets.HeadTryFromFields.try_from.Reads as head-of
+use Rattle.wire.proofs.records.NumberRecordTryFromRecordFields.try_from.Kinds as record-of-kinds
+use Rattle.wire.proofs.records.NumberRecordTryFromRecordFields.try_from.Reads as record-of
+use Rattle.wire.proofs.records.RecordFieldsFromNumberRecord.from.Kinds as record-fields-kinds
+use Rattle.wire.proofs.records.RecordFieldsFromNumberRecord.from.Reads as record-fields
 use Rattle.wire.proofs.records.renewed.Kinds as renewed-kinds
 use Rattle.wire.proofs.records.renewed.Reads as renewed
 use Rattle.wire.proofs.records.aged.Kinds as aged-kinds
 use Rattle.wire.proofs.records.aged.Reads as aged
-use Rattle.wire.proofs.packets.fields_of.Kinds as fields-of-kinds
-use Rattle.wire.proofs.packets.fields_of.Reads as fields-of
+use Rattle.wire.proofs.packets.FieldsFromHead.from.Kinds as fields-of-kinds
+use Rattle.wire.proofs.packets.FieldsFromHead.from.Reads as fields-of
+use Rattle.wire.proofs.JPartialEq.eq.Kinds as same-j-kinds
+use Rattle.wire.proofs.JPartialEq.eq.Reads as same-j
+use Rattle.wire.proofs.IPartialEq.eq.Kinds as same-i-kinds
+use Rattle.wire.proofs.IPartialEq.eq.Reads as same-i
+
+pub same_j_determined : Determined same-j-kinds.ps same-j-kinds.r same-j.Post
+same_j_determined κs a x y s t p q = p ∙ sym q
+
+pub same_i_determined : Determined same-i-kinds.ps same-i-kinds.r same-i.Post
+same_i_determined κs a x y s t p q = p ∙ sym q
 
 pub direction_of_determined : Determined direction-of-kinds.ps direction-of-kinds.r direction-of.Post
 direction_of_determined κs a x y s t p q = p ∙ sym q
@@ -71,15 +77,6 @@ from_big_endian_16_determined κs a x y s t p q = p ∙ sym q
 pub head_of_determined : Determined head-of-kinds.ps head-of-kinds.r head-of.Post
 head_of_determined κs a x y s t p q = p ∙ sym q
 
-pub end_of_determined : Determined end-of-kinds.ps end-of-kinds.r end-of.Post
-end_of_determined κs a x y s t p q = p ∙ sym q
-
-pub number_of_determined : Determined number-of-kinds.ps number-of-kinds.r number-of.Post
-number_of_determined κs a x y s t p q = p ∙ sym q
-
-pub block_of_determined : Determined block-of-kinds.ps block-of-kinds.r block-of.Post
-block_of_determined κs a x y s t p q = p ∙ sym q
-
 pub record_of_determined : Determined record-of-kinds.ps record-of-kinds.r record-of.Post
 record_of_determined κs a x y s t p q = p ∙ sym q
 
@@ -90,4 +87,7 @@ pub aged_determined : Determined aged-kinds.ps aged-kinds.r aged.Post
 aged_determined κs a x y s t p q = p ∙ sym q
 
 pub fields_of_determined : Determined fields-of-kinds.ps fields-of-kinds.r fields-of.Post
-fields_of_determined κs a x y s t p q = λ i. record { kind = (p.0 ∙ sym q.0) i; first = (p.1 ∙ sym q.1) i; second = (p.2 ∙ sym q.2) i }
+fields_of_determined κs a x y s t p q = p ∙ sym q
+
+pub record_fields_determined : Determined record-fields-kinds.ps record-fields-kinds.r record-fields.Post
+record_fields_determined κs a x y s t p q = p ∙ sym q

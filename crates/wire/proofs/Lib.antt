@@ -15,4 +15,5 @@ pub mod Trips
 pub mod Vectors
 pub mod Writing
 pub mod Wrong
+pub mod WrongCompared
 pub mod WrongNumber

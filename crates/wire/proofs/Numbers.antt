@@ -1,12 +1,13 @@
 -- Numbers in bytes: the two round trips, and the four or two bytes that the code computes.
 use Prim.Native.Nat.{ℕ, zero, suc, ◌+◌, ◌*◌, ◌/◌, ◌%◌, ◌^◌, ◌≤◌, ◌<◌}
-use mathlib.Core.Path.{◌≡◌, refl, sym, ap, ◌∙◌}
+use mathlib.Core.Path.{◌≡◌, refl, ap, ◌∙◌}
 use mathlib.Core.List.{List, [], ◌∷◌}
 use native.Mathlib.Numerals.{add-one, add-two, add-three}
 use native.Mathlib.Omega.{arith}
 use native.Mathlib.Nat.{div-add-mod', mod-lt, mod-eq_of_lt, mul-add-mod_self_right, mul-add-div_right, div-eq_of_lt, add-zero, one-le-pow, pow-suc, pow-succ', div-lt_iff_lt-mul, mul-le-mul_right}
 use lib.ListN.{length, get_or, drop, length-drop}
 use lib.Seq.{length-take-le}
+use Rattle.std.specs.Int.{w16, w32, to_be_bytes, from_be_bytes}
 use Rattle.ground.specs.Bytes.{Bytes}
 use Rattle.ground.proofs.Bytes.{bytes_take, bytes_drop}
 use Rattle.wire.specs.Frame.{field}
@@ -57,37 +58,42 @@ bytes_bytes_of zero x h i = omega arith
 bytes_bytes_of (suc n) x h zero = (div-lt_iff_lt-mul (power n)).1 (rw (pow-succ' 256 n) at h)
 bytes_bytes_of (suc n) x h (suc i) = bytes_bytes_of n (x % 256 ^ n) (mod-lt x (power n)) i
 
--- the bytes of a number, and the number of bytes, as the code computes them
-pub big_endian_is : (n : ℕ) → n / 0x1000000 ∷ n / 0x10000 % 0x100 ∷ n / 0x100 % 0x100 ∷ n % 0x100 ∷ [] ≡ bytes_of 4 n
+-- the library's bytes of a number, and its number of bytes
+pub to_be_bytes_4 : (n : ℕ) → n < 2 ^ 32 → to_be_bytes w32 n ≡ bytes_of 4 n
 unfolding bytes_of
-big_endian_is n =
+to_be_bytes_4 n h =
+    let e₀ : n / 0x1000000 % 0x100 ≡ n / 0x1000000 = omega arith in
     let e₁ : n / 0x10000 % 0x100 ≡ n % 0x1000000 / 0x10000 = omega arith in
     let e₂ : n / 0x100 % 0x100 ≡ n % 0x1000000 % 0x10000 / 0x100 = omega arith in
     let e₃ : n % 0x100 ≡ n % 0x1000000 % 0x10000 % 0x100 / 1 = omega arith in
-    rw (e₁, e₂, e₃)
+    rw (e₀, e₁, e₂, e₃)
 
-pub big_endian_16_is : (n : ℕ) → n / 0x100 ∷ n % 0x100 ∷ [] ≡ bytes_of 2 n
+pub to_be_bytes_2 : (n : ℕ) → n < 2 ^ 16 → to_be_bytes w16 n ≡ bytes_of 2 n
 unfolding bytes_of
-big_endian_16_is n = let e : n % 0x100 ≡ n % 0x100 / 1 = omega arith in ap (λ (b : ℕ). n / 0x100 ∷ b ∷ []) e
+to_be_bytes_2 n h =
+    let e₀ : n / 0x100 % 0x100 ≡ n / 0x100 = omega arith in
+    let e₁ : n % 0x100 ≡ n % 0x100 / 1 = omega arith in
+    λ i. e₀ i ∷ e₁ i ∷ []
+
+pub from_be_bytes_4 : (s : List ℕ) → length s ≡ 4 → from_be_bytes w32 s ≡ value s
+unfolding value
+from_be_bytes_4 s l =
+    let f : from_be_bytes w32 s ≡ value (elements s 0 4) = omega arith in
+    f ∙ ap value (rest_elements 4 s 0 l)
+
+pub from_be_bytes_2 : (s : List ℕ) → length s ≡ 2 → from_be_bytes w16 s ≡ value s
+unfolding value
+from_be_bytes_2 s l =
+    let f : from_be_bytes w16 s ≡ value (elements s 0 2) = omega arith in
+    f ∙ ap value (rest_elements 2 s 0 l)
 
 -- a number of one byte in two
 pub byte_in_two : (n : ℕ) → n < 256 → bytes_of 2 n ≡ 0 ∷ n ∷ []
+unfolding bytes_of
 byte_in_two n h =
     let e : n / 0x100 ≡ 0 = div-eq_of_lt h in
-    let f : n % 0x100 ≡ n = mod-eq_of_lt h in
-    sym (big_endian_16_is n) ∙ rw (e, f)
-
-pub four_is : (s : List ℕ) {a b c d : ℕ} → length s ≡ 4 → a ≡ get_or s 0 0 → b ≡ get_or s 1 0 → c ≡ get_or s 2 0 → d ≡ get_or s 3 0 → a * 0x1000000 + b * 0x10000 + c * 0x100 + d ≡ value s
-unfolding value
-four_is s l e₀ e₁ e₂ e₃ =
-    let f : get_or s 0 0 * 0x1000000 + get_or s 1 0 * 0x10000 + get_or s 2 0 * 0x100 + get_or s 3 0 ≡ value (elements s 0 4) = omega arith in
-    rw (e₀, e₁, e₂, e₃) (f ∙ ap value (rest_elements 4 s 0 l))
-
-pub two_is : (s : List ℕ) {a b : ℕ} → length s ≡ 2 → a ≡ get_or s 0 0 → b ≡ get_or s 1 0 → a * 0x100 + b ≡ value s
-unfolding value
-two_is s l e₀ e₁ =
-    let f : get_or s 0 0 * 0x100 + get_or s 1 0 ≡ value (elements s 0 2) = omega arith in
-    rw (e₀, e₁) (f ∙ ap value (rest_elements 2 s 0 l))
+    let f : n % 0x100 / 1 ≡ n = omega arith in
+    rw (e, f)
 
 pub number_at_is : (s : List ℕ) (at : ℕ) {n : ℕ} → at + 4 ≤ length s → n ≡ value (get_or s at 0 ∷ get_or s (at + 1) 0 ∷ get_or s (at + 2) 0 ∷ get_or s (at + 3) 0 ∷ []) → n ≡ value (field s at 4)
 number_at_is s at h e = rw (field_elements 4 s at h) (rw (add-one, add-two, add-three) at e)

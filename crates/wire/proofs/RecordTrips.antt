@@ -8,13 +8,17 @@ use borrow.Author.Tests.{ne_eqb, eqb-true, eqb-false, leb-true}
 use lib.ListN.{length, get_or, drop, drop_of_length-le}
 use lib.Dec.{eqb, leb}
 use Rattle.ground.specs.Bytes.{Bytes}
-use Rattle.ground.specs.Choice.{when◌then◌else◌}
+use Rattle.std.specs.Prelude.{Ok, Err}
+use Rattle.ground.specs.Refusals.{refusal_of}
+use Rattle.ground.specs.declared.refusals.Refusal.{Refusal}
+use Rattle.ground.specs.declared.refusals.Refusal.TheVariants.{WrongField}
+use Rattle.ground.proofs.RefusalNumbers.{is_one, is_other, is_refusal}
+use Rattle.ground.specs.Choice.{chosen}
 use Rattle.ground.specs.First.{first}
 use Rattle.ground.proofs.Elements.{rest_elements}
 use Rattle.ground.proofs.Tests.{by_test, and_left, and_right}
 use Rattle.wire.specs.declared.NumberRecord.{NumberRecord}
 use Rattle.wire.specs.declared.NumberRecord.TheVariants.{ConsoleOld, ControllerOld, Console, Controller}
-use Rattle.wire.specs.declared.ReadRecord.TheVariants.{Refused, Is}
 use Rattle.wire.specs.Frame.{field, bytes_are}
 use Rattle.wire.specs.Number.{bytes_of, value}
 use Rattle.wire.specs.Record.{is_old, end_of, number_of, block_of, is_block, is_good, old_bytes, new_bytes, record_bytes, records, record_of, block_at, record_at, is_read, record_refusal, record_read, length_of}
@@ -37,44 +41,44 @@ below b g = let h = leb-true b 1024 (and_right (leb 1 b) (leb b 1024) g) in omeg
 
 -- ## What is written reads back
 
-pub own_record : (r : NumberRecord) → is_good r ≡ true → record_of (end_of r) (number_of r) (block_of r) ≡ Is r
-unfolding record_of when◌then◌else◌
+pub own_record : (r : NumberRecord) → is_good r ≡ true → record_of (end_of r) (number_of r) (block_of r) ≡ Ok r
+unfolding record_of chosen
 own_record (ConsoleOld j) g = refl
 own_record (ControllerOld i) g = refl
 own_record (Console j b) g = rw (above b g)
 own_record (Controller i b) g = rw (above b g)
 
-module _ (e n : ℕ) {r : NumberRecord} (t : n < 2 ^ 32) (q : record_of e n 0 ≡ Is r) where
-  old_at : record_at (old_bytes e n) ≡ Is r
-  unfolding record_at block_at bytes_of when◌then◌else◌
+module _ (e n : ℕ) {r : NumberRecord} (t : n < 2 ^ 32) (q : record_of e n 0 ≡ Ok r) where
+  old_at : record_at (old_bytes e n) ≡ Ok r
+  unfolding record_at block_at bytes_of chosen
   old_at = rw (value_bytes_of 4 n t) q
 
   old_unrefused : record_refusal (old_bytes e n) ≡ 0
-  unfolding record_refusal bytes_of first when◌then◌else◌
+  unfolding record_refusal bytes_of first chosen
   old_unrefused = rw old_at
 
-  old_back : record_read (old_bytes e n) ≡ Is r
+  old_back : record_read (old_bytes e n) ≡ Ok r
   old_back = read_so (old_bytes e n) old_unrefused ∙ old_at
 
-module _ (e n b : ℕ) {r : NumberRecord} (t : n < 2 ^ 32) (g : is_block b ≡ true) (q : record_of e n b ≡ Is r) where
+module _ (e n b : ℕ) {r : NumberRecord} (t : n < 2 ^ 32) (g : is_block b ≡ true) (q : record_of e n b ≡ Ok r) where
   new_laid : block_at (new_bytes e n b) ≡ b
-  unfolding block_at bytes_of when◌then◌else◌
+  unfolding block_at bytes_of chosen
   new_laid = value_bytes_of 2 b (below b g)
 
-  new_at : record_at (new_bytes e n b) ≡ Is r
+  new_at : record_at (new_bytes e n b) ≡ Ok r
   unfolding record_at bytes_of
   new_at = rw (new_laid, value_bytes_of 4 n t) q
 
   new_unrefused : record_refusal (new_bytes e n b) ≡ 0
-  unfolding record_refusal bytes_of first when◌then◌else◌
+  unfolding record_refusal bytes_of first chosen
   new_unrefused = rw (new_at, new_laid, g)
 
-  new_back : record_read (new_bytes e n b) ≡ Is r
+  new_back : record_read (new_bytes e n b) ≡ Ok r
   new_back = read_so (new_bytes e n b) new_unrefused ∙ new_at
 
 -- a record whose number fits 32 bits and whose block, if it has one, is good
-pub record_read_back : (r : NumberRecord) → number_of r < 2 ^ 32 → is_good r ≡ true → record_read (record_bytes r) ≡ Is r
-unfolding record_bytes when◌then◌else◌
+pub record_read_back : (r : NumberRecord) → number_of r < 2 ^ 32 → is_good r ≡ true → record_read (record_bytes r) ≡ Ok r
+unfolding record_bytes chosen
 record_read_back (ConsoleOld j) t g = old_back 1 j.0 t (own_record (ConsoleOld j) g)
 record_read_back (ControllerOld i) t g = old_back 2 i.0 t (own_record (ControllerOld i) g)
 record_read_back (Console j b) t g = new_back 1 j.0 b t g (own_record (Console j b) g)
@@ -82,15 +86,9 @@ record_read_back (Controller i b) t g = new_back 2 i.0 b t g (own_record (Contro
 
 -- ## A record, its fields and its bytes
 
-is_one : (a b : NumberRecord) → Is a ≡ Is b → a ≡ b
-is_one a b e = cc
-
 -- another record has other bytes
 pub bytes_one : (a b : NumberRecord) → number_of a < 2 ^ 32 → is_good a ≡ true → number_of b < 2 ^ 32 → is_good b ≡ true → record_bytes a ≡ record_bytes b → a ≡ b
 bytes_one a b t g u h e = is_one a b (sym (record_read_back a t g) ∙ ap record_read e ∙ record_read_back b u h)
-
-pub is_other : (n : ℕ) (a : NumberRecord) → Refused n ≡ Is a → ⊥
-is_other n a e = let z : ◌≡◌ {A = ℕ} 0 1 = cc in omega arith
 
 -- a record is made of its own end, number and block, and block 0 makes version 1
 pub record Made (e n b : ℕ) (r : NumberRecord) : Type 0 where
@@ -104,16 +102,16 @@ module _ (e n b : ℕ) where
   As r = (n ≡ number_of r) × (b ≡ block_of r) × (is_old r ≡ eqb b 0)
 
   each_as : Each As (records n b)
-  unfolding when◌then◌else◌
+  unfolding chosen
   each_as =
       by_test (eqb b 0)
       (λ t. let z = eqb-true b 0 t in rw t ((refl, z, sym t), ((refl, z, sym t), tt)))
       (λ f. rw f ((refl, refl, sym f), ((refl, refl, sym f), tt)))
 
-  pub made : {r : NumberRecord} → record_of e n b ≡ Is r → Made e n b r
+  pub made : {r : NumberRecord} → record_of e n b ≡ Ok r → Made e n b r
   unfolding record_of
   made {r} q =
-      let p = found_passes (λ v. eqb e (end_of v)) Is (Refused 15) is_one (is_other 15) As (records n b) each_as q in
+      let p = found_passes (λ v. eqb e (end_of v)) Ok (Err WrongField) is_one (is_other WrongField) As (records n b) each_as q in
       record { end = eqb-true e (end_of r) p.0; number = p.1.0; block = p.1.1; version = p.1.2 }
 
 -- ## What bytes that are not refused have
@@ -139,21 +137,21 @@ module _ (s : List ℕ) (z : record_refusal s ≡ 0) where
       by_test (eqb (length s) 16) (λ t. (new_passes (eqb-true (length s) 16 t)).0) (λ f. (old_framed (eqb-false (length s) 16 f)).fields)
 
 -- a refusal is the first, and its number is not 0
-pub record_refused : (s : List ℕ) {n : ℕ} → record_read s ≡ Refused n → (record_refusal s ≡ n) × (n ≡ 0 → ⊥)
-unfolding record_read when◌then◌else◌
-record_refused s {n} e =
+pub record_refused : (s : List ℕ) {r : Refusal} → record_read s ≡ Err r → (refusal_of (record_refusal s) ≡ r) × (record_refusal s ≡ 0 → ⊥)
+unfolding record_read chosen
+record_refused s {r} e =
     by_test (eqb (record_refusal s) 0)
-    (λ t. let u : record_at s ≡ Refused n = rw t at e in absurd (false≢true (rw u at (end_passes s (eqb-true (record_refusal s) 0 t)))))
-    (λ f. let u : Refused (record_refusal s) ≡ Refused n = rw f at e in let q : record_refusal s ≡ n = cc in (q, λ z. eqb-false (record_refusal s) 0 f (q ∙ z)))
+    (λ t. let u : record_at s ≡ Err r = rw t at e in absurd (false≢true (rw u at (end_passes s (eqb-true (record_refusal s) 0 t)))))
+    (λ f. (is_refusal (refusal_of (record_refusal s)) r (rw f at e), eqb-false (record_refusal s) 0 f))
 
-pub record_unrefused : (s : List ℕ) {r : NumberRecord} → record_read s ≡ Is r → (record_refusal s ≡ 0) × (record_at s ≡ Is r)
-unfolding record_read when◌then◌else◌
+pub record_unrefused : (s : List ℕ) {r : NumberRecord} → record_read s ≡ Ok r → (record_refusal s ≡ 0) × (record_at s ≡ Ok r)
+unfolding record_read chosen
 record_unrefused s {r} e =
     by_test (eqb (record_refusal s) 0)
     (λ t. (eqb-true (record_refusal s) 0 t, rw t at e))
-    (λ f. absurd (is_other (record_refusal s) r (rw f at e)))
+    (λ f. absurd (is_other (refusal_of (record_refusal s)) r (rw f at e)))
 
-module _ (s : List ℕ) {r : NumberRecord} (e : record_read s ≡ Is r) where
+module _ (s : List ℕ) {r : NumberRecord} (e : record_read s ≡ Ok r) where
   made_of : Made (get_or s 5 0) (value (field s 8 4)) (block_at s) r
   unfolding record_at
   made_of = made (get_or s 5 0) (value (field s 8 4)) (block_at s) (record_unrefused s e).1
@@ -182,9 +180,9 @@ pub record Loaded (s : List ℕ) (r : NumberRecord) : Type 0 where
   pub good : is_good r ≡ true
   pub same : record_bytes r ≡ s
 
-module _ (s : List ℕ) (b : Bytes s) {r : NumberRecord} (e : record_read s ≡ Is r) where
+module _ (s : List ℕ) (b : Bytes s) {r : NumberRecord} (e : record_read s ≡ Ok r) where
   loaded_old : (length s ≡ 16 → ⊥) → Loaded s r
-  unfolding record_bytes when◌then◌else◌
+  unfolding record_bytes chosen
   loaded_old h =
       let g = old_framed s (record_unrefused s e).0 h in
       let l = g.long in
@@ -199,7 +197,7 @@ module _ (s : List ℕ) (b : Bytes s) {r : NumberRecord} (e : record_read s ≡ 
       }
 
   loaded_new : length s ≡ 16 → Loaded s r
-  unfolding record_bytes when◌then◌else◌
+  unfolding record_bytes chosen
   loaded_new l =
       let z = (record_unrefused s e).0 in
       let m = made_of s e in
@@ -213,9 +211,9 @@ module _ (s : List ℕ) (b : Bytes s) {r : NumberRecord} (e : record_read s ≡ 
         same = rw (o, ← m.end, ← m.number, ← m.block, new_block s l, field_back s 8 4 b (omega arith), field_back s 12 2 b (omega arith), ← rest) (frame_rest 16 0x4E 2 s _ (omega arith) (new_framed s z l));
       }
 
-pub loaded : (s : List ℕ) → Bytes s → {r : NumberRecord} → record_read s ≡ Is r → Loaded s r
+pub loaded : (s : List ℕ) → Bytes s → {r : NumberRecord} → record_read s ≡ Ok r → Loaded s r
 loaded s b e =
     by_test (eqb (length s) 16) (λ t. loaded_new s b e (eqb-true (length s) 16 t)) (λ f. loaded_old s b e (eqb-false (length s) 16 f))
 
-pub record_write_back : (s : List ℕ) → Bytes s → {r : NumberRecord} → record_read s ≡ Is r → record_bytes r ≡ s
+pub record_write_back : (s : List ℕ) → Bytes s → {r : NumberRecord} → record_read s ≡ Ok r → record_bytes r ≡ s
 record_write_back s b e = (loaded s b e).same

@@ -4,18 +4,19 @@ use mathlib.Core.Path.{◌≡◌, refl}
 use mathlib.Core.List.{List, [], ◌∷◌, ◌++◌, map}
 use lib.ListN.{length, take, set, replicate}
 use Rattle.ground.specs.Cell.{cells, is_message, spaces}
-use Rattle.ground.specs.Choice.{when◌then◌else◌}
+use Rattle.std.specs.Prelude as result
+use Rattle.ground.specs.Refusals.{refusal_of}
+use Rattle.ground.specs.Choice.{chosen}
 use Rattle.ground.specs.Every.{filled}
 use Rattle.ground.specs.First.{first}
 use Rattle.wire.specs.Number.{bytes_of, value}
-use Rattle.wire.specs.Packet.{is_blank, direction_of, fits, packet_bytes, head_of, head_at, read_refusal, accepted, refused, packet_read, write_refusal, packet_written}
+use Rattle.wire.specs.Packet.{is_blank, direction_of, fits, packet_bytes, head_of, head_at, read_refusal, accepted, refused, head_read, packet_read, write_refusal, packet_written}
 use Rattle.wire.specs.Record.{record_bytes, record_of, block_at, record_at, record_refusal, record_read, record_write_refusal, record_written, renewed, aged}
 use Rattle.wire.specs.declared.Direction.TheVariants.{ToController, ToConsole}
 use Rattle.wire.specs.declared.Head.TheVariants.{NeedI, Offer, Data, Ok, Lost, Done}
 use Rattle.wire.specs.declared.NumberRecord.{NumberRecord}
 use Rattle.wire.specs.declared.NumberRecord.TheVariants.{ConsoleOld, ControllerOld, Console, Controller}
 use Rattle.wire.specs.declared.Packet.{Packet}
-use Rattle.wire.specs.declared.ReadRecord.TheVariants.{Refused, Is}
 
 -- the example that the packet's layout is given with: needI with J = 1
 abbrev pub need_i : ℕ → Packet
@@ -29,7 +30,7 @@ unfolding packet_bytes bytes_of
 need_i_1_written = refl
 
 pub need_i_1_read : packet_read need_i_1 ≡ accepted (need_i 1)
-unfolding packet_read read_refusal head_at head_of value bytes_of first when◌then◌else◌ is_blank filled
+unfolding head_read read_refusal head_at head_of value bytes_of first chosen is_blank filled
 need_i_1_read = refl
 
 abbrev zeros : List ℕ
@@ -62,11 +63,11 @@ packets_go : map (λ (v : Packet × List ℕ). direction_of v.0.head) packets
 packets_go = refl
 
 packets_written : map (λ (v : Packet × List ℕ). packet_written (replicate 32 7) v.0) packets ≡ map (λ (v : Packet × List ℕ). v.1) packets
-unfolding packet_written write_refusal fits packet_bytes bytes_of first when◌then◌else◌ is_blank is_message cells filled
+unfolding packet_written write_refusal fits packet_bytes bytes_of first chosen is_blank is_message cells filled
 packets_written = refl
 
 packets_read : map (λ (v : Packet × List ℕ). packet_read v.1) packets ≡ map (λ (v : Packet × List ℕ). accepted v.0) packets
-unfolding packet_read read_refusal head_at head_of value bytes_of first when◌then◌else◌ is_blank is_message cells filled
+unfolding head_read read_refusal head_at head_of value bytes_of first chosen is_blank is_message cells filled
 packets_read = refl
 
 -- bytes that are refused, and their first refusal
@@ -93,7 +94,7 @@ refusals =
     ∷ []
 
 packets_refused : map (λ (v : List ℕ × ℕ). packet_read v.0) refusals ≡ map (λ (v : List ℕ × ℕ). refused v.1) refusals
-unfolding packet_read read_refusal head_at head_of value bytes_of first when◌then◌else◌ is_blank is_message cells filled
+unfolding head_read read_refusal head_at head_of value bytes_of first chosen is_blank is_message cells filled
 packets_refused = refl
 
 -- packets that can't be written, to 32 bytes and to 31
@@ -106,11 +107,11 @@ unfit =
     ∷ []
 
 unfit_15 : map (write_refusal 32) unfit ≡ replicate 4 15
-unfolding write_refusal fits first when◌then◌else◌ is_blank is_message cells filled
+unfolding write_refusal fits first chosen is_blank is_message cells filled
 unfit_15 = refl
 
 unfit_12 : map (write_refusal 31) unfit ≡ replicate 4 12
-unfolding write_refusal first when◌then◌else◌
+unfolding write_refusal first chosen
 unfit_12 = refl
 
 -- records of both versions and both ends, and their bytes
@@ -125,11 +126,11 @@ records =
     ∷ []
 
 records_written : map (λ (v : NumberRecord × List ℕ). record_written (replicate (length v.1) 7) v.0) records ≡ map (λ (v : NumberRecord × List ℕ). v.1) records
-unfolding record_written record_write_refusal record_bytes bytes_of first when◌then◌else◌
+unfolding record_written record_write_refusal record_bytes bytes_of first chosen
 records_written = refl
 
-records_read : map (λ (v : NumberRecord × List ℕ). record_read v.1) records ≡ map (λ (v : NumberRecord × List ℕ). Is v.0) records
-unfolding record_read record_refusal record_at block_at record_of value bytes_of first when◌then◌else◌
+records_read : map (λ (v : NumberRecord × List ℕ). record_read v.1) records ≡ map (λ (v : NumberRecord × List ℕ). result.Ok v.0) records
+unfolding record_read record_refusal record_at block_at record_of value bytes_of first chosen
 records_read = refl
 
 -- carried to version 2, and back
@@ -174,12 +175,12 @@ record_refusals =
     ∷ (set new 15 1, 15)
     ∷ []
 
-records_refused : map (λ (v : List ℕ × ℕ). record_read v.0) record_refusals ≡ map (λ (v : List ℕ × ℕ). Refused v.1) record_refusals
-unfolding record_read record_refusal record_at block_at record_of value bytes_of first when◌then◌else◌
+records_refused : map (λ (v : List ℕ × ℕ). record_read v.0) record_refusals ≡ map (λ (v : List ℕ × ℕ). result.Err (refusal_of v.1)) record_refusals
+unfolding record_read record_refusal record_at block_at record_of value bytes_of first chosen
 records_refused = refl
 
 -- each version to the other's length, and blocks that are none
 records_unwritten : record_write_refusal 16 (ConsoleOld (record { 0 = 7 })) ∷ record_write_refusal 12 (Console (record { 0 = 7 }) 64) ∷ record_write_refusal 12 (Console (record { 0 = 7 }) 0) ∷ map (λ (b : ℕ). record_write_refusal 16 (Controller (record { 0 = 7 }) b)) (0 ∷ 1 ∷ 1024 ∷ 1025 ∷ [])
     ≡ 12 ∷ 12 ∷ 12 ∷ 15 ∷ 0 ∷ 0 ∷ 15 ∷ []
-unfolding record_write_refusal first when◌then◌else◌
+unfolding record_write_refusal first chosen
 records_unwritten = refl

@@ -7,50 +7,50 @@ use lib.ListN.{length, get_or, take, set, replicate}
 use contract.Lifetimes.{Lfts}
 use borrow.Fn.Kinds.{Dens, ended_of}
 use denote.Triple.Clauses.{AtExit}
-use Rattle.ground.specs.Choice.{when◌then◌else◌}
+use Rattle.std.specs.Prelude.{Result}
+use Rattle.std.specs.Prelude as result
+use Rattle.ground.specs.Refusals.{refusal_of, refused_by, refusal_in}
+use Rattle.ground.specs.declared.refusals.Refusal.{Refusal}
+use Rattle.ground.specs.declared.refusals.Refusal.TheVariants.{WrongField}
+use Rattle.ground.proofs.RefusalNumbers.{is_one, is_other}
+use Rattle.wire.specs.declared.Head.{Head}
+use Rattle.wire.specs.declared.packets.Fields.{Fields}
+use Rattle.wire.specs.declared.records.RecordFields.{RecordFields}
+use Rattle.ground.specs.Choice.{chosen}
 use Rattle.ground.specs.Every.{filled}
 use Rattle.ground.specs.First.{first}
 use Rattle.ground.proofs.Promise.{RulesOut, unequal, clash}
 use Rattle.wire.specs.Number.{bytes_of, value}
-use Rattle.wire.specs.Packet.{is_blank, fits, head_at, kind_of, first_of, second_of, direction_of, head_of, read_refusal, accepted, refused, packet_read, write_refusal, packet_written}
+use Rattle.wire.specs.Packet.{is_blank, fits, head_at, direction_of, fields_of, head_of, read_refusal, accepted, refused, head_read, packet_read, write_refusal, packet_written}
 use Rattle.wire.specs.declared.Direction.TheVariants.{ToController, ToConsole}
 use Rattle.wire.specs.declared.Head.TheVariants.{NeedI, Offer, Ok}
 use Rattle.wire.specs.declared.NumberRecord.{NumberRecord}
 use Rattle.wire.specs.declared.NumberRecord.TheVariants.{ConsoleOld, ControllerOld, Console}
 use Rattle.wire.specs.declared.Packet.{Packet}
-use Rattle.wire.specs.declared.ReadHead.{ReadHead}
-use Rattle.wire.specs.declared.ReadHead.TheVariants.{Refused, Is}
-use Rattle.wire.specs.declared.ReadPacket.{ReadPacket}
-use Rattle.wire.specs.declared.ReadRecord.{ReadRecord}
-use Rattle.wire.specs.declared.ReadRecord.TheVariants.{Refused as Unread, Is as Recorded}
-use Rattle.wire.specs.Record.{end_of, number_of, block_of, record_of, record_bytes, block_at, record_at, record_refusal, record_read, record_write_refusal, record_written, renewed, aged}
+use Rattle.wire.specs.Record.{end_of, number_of, block_of, record_fields, record_of, record_bytes, block_at, record_at, record_refusal, record_read, record_write_refusal, record_written, renewed, aged}
 use Rattle.wire.proofs.PacketsFit.{need_i_fits}
-use Rattle.wire.proofs.Heads.{is_other}
-use Rattle.wire.proofs.RecordTrips.{is_other as is-unread, record_read_back}
+use Rattle.wire.proofs.RecordTrips.{record_read_back}
+use Rattle.wire.proofs.Trips.{was_read}
 use Rattle.wire.proofs.Vectors.{need_i, need_i_1, need_i_1_read, need_i_1_written}
 use Rattle.wire.proofs.Writing.{packet_written_lem}
 use Rattle.wire.proofs.frame.big_endian.Kinds as big-endian-kinds
 use Rattle.wire.proofs.frame.big_endian.Reads as big-endian
 use Rattle.wire.proofs.packets.direction_of.Kinds as direction-of-kinds
 use Rattle.wire.proofs.packets.direction_of.Reads as direction-of
-use Rattle.wire.proofs.packets.fields_of.Kinds as fields-of-kinds
-use Rattle.wire.proofs.packets.fields_of.Reads as fields-of
-use Rattle.wire.proofs.packets.head_of.Kinds as head-of-kinds
-use Rattle.wire.proofs.packets.head_of.Reads as head-of
+use Rattle.wire.proofs.packets.FieldsFromHead.from.Kinds as fields-of-kinds
+use Rattle.wire.proofs.packets.FieldsFromHead.from.Reads as fields-of
+use Rattle.wire.proofs.packets.HeadTryFromFields.try_from.Kinds as head-of-kinds
+use Rattle.wire.proofs.packets.HeadTryFromFields.try_from.Reads as head-of
 use Rattle.wire.proofs.packets.read_head.Kinds as read-head-kinds
 use Rattle.wire.proofs.packets.read_head.Reads as read-head
 use Rattle.wire.proofs.packets.read_packet.Kinds as read-packet-kinds
 use Rattle.wire.proofs.packets.read_packet.Reads as read-packet
 use Rattle.wire.proofs.packets.write_packet.Kinds as write-packet-kinds
 use Rattle.wire.proofs.packets.write_packet.Reads as write-packet
-use Rattle.wire.proofs.records.end_of.Kinds as end-of-kinds
-use Rattle.wire.proofs.records.end_of.Reads as end-of
-use Rattle.wire.proofs.records.number_of.Kinds as number-of-kinds
-use Rattle.wire.proofs.records.number_of.Reads as number-of
-use Rattle.wire.proofs.records.block_of.Kinds as block-of-kinds
-use Rattle.wire.proofs.records.block_of.Reads as block-of
-use Rattle.wire.proofs.records.record_of.Kinds as record-of-kinds
-use Rattle.wire.proofs.records.record_of.Reads as record-of
+use Rattle.wire.proofs.records.RecordFieldsFromNumberRecord.from.Kinds as record-fields-kinds
+use Rattle.wire.proofs.records.RecordFieldsFromNumberRecord.from.Reads as record-fields
+use Rattle.wire.proofs.records.NumberRecordTryFromRecordFields.try_from.Kinds as record-of-kinds
+use Rattle.wire.proofs.records.NumberRecordTryFromRecordFields.try_from.Reads as record-of
 use Rattle.wire.proofs.records.renewed.Kinds as renewed-kinds
 use Rattle.wire.proofs.records.renewed.Reads as renews
 use Rattle.wire.proofs.records.aged.Kinds as aged-kinds
@@ -67,53 +67,46 @@ unused = ConsoleOld (record { 0 = 0 })
 
 -- a reader
 pub always_refuses : RulesOut read-packet-kinds.ps read-packet-kinds.r read-packet.Post (λ κs a. a.0.now ≡ need_i_1) (λ κs a x s. (n : ℕ) × (x ≡ refused n))
-always_refuses κs a x s e w p =
-    let q : refused w.0 ≡ accepted (need_i 1) = sym w.1 ∙ p ∙ ap packet_read e ∙ need_i_1_read in
-    is_other w.0 (NeedI (record { 0 = 1 })) (ap (λ (r : ReadPacket). r.head) q)
+always_refuses κs a x s e w p = is_other (refusal_of w.0) (need_i 1) (sym w.1 ∙ p ∙ ap packet_read e ∙ need_i_1_read)
 
 pub accepts_everything : RulesOut read-packet-kinds.ps read-packet-kinds.r read-packet.Post (λ κs a. a.0.now ≡ []) (λ κs a x s. (p : Packet) × (x ≡ accepted p))
-unfolding packet_read read_refusal first when◌then◌else◌
-accepts_everything κs a x s e w p =
-    let q : accepted w.0 ≡ refused 12 = sym w.1 ∙ p ∙ ap packet_read e in
-    is_other 12 w.0.head (sym (ap (λ (r : ReadPacket). r.head) q))
+unfolding head_read read_refusal first chosen
+accepts_everything κs a x s e w p = is_other (refusal_of 12) w.0 (sym (sym w.1 ∙ p ∙ ap packet_read e))
 
 -- a reader that takes needI with one byte changed, and the number that it should have given
 abbrev Takes : ℕ → ℕ → Type 0
-Takes at byte = RulesOut read-packet-kinds.ps read-packet-kinds.r read-packet.Post (λ κs a. a.0.now ≡ set need_i_1 at byte) (λ κs a x s. x.head ≡ Is (NeedI (record { 0 = 1 })))
+Takes at byte = RulesOut read-packet-kinds.ps read-packet-kinds.r read-packet.Post (λ κs a. a.0.now ≡ set need_i_1 at byte) (λ κs a x s. (p : Packet) × (x ≡ accepted p))
 
 taken : (at byte n : ℕ) → packet_read (set need_i_1 at byte) ≡ refused n → Takes at byte
-taken at byte n r κs a x s e w p = is_other n (NeedI (record { 0 = 1 })) (sym (ap (λ (q : ReadPacket). q.head) (p ∙ ap packet_read e ∙ r)) ∙ w)
+taken at byte n r κs a x s e w p = is_other (refusal_of n) w.0 (sym (p ∙ ap packet_read e ∙ r) ∙ w.1)
 
 pub takes_another_mark : Takes 1 0x54
-unfolding packet_read read_refusal head_at head_of value bytes_of first when◌then◌else◌ is_blank filled
+unfolding head_read read_refusal head_at head_of value bytes_of first chosen is_blank filled
 takes_another_mark = taken 1 0x54 13 refl
 
 pub takes_version_2 : Takes 4 2
-unfolding packet_read read_refusal head_at head_of value bytes_of first when◌then◌else◌ is_blank filled
+unfolding head_read read_refusal head_at head_of value bytes_of first chosen is_blank filled
 takes_version_2 = taken 4 2 14 refl
 
 pub takes_a_space_for_a_zero : Takes 16 0x20
-unfolding packet_read read_refusal head_at head_of value bytes_of first when◌then◌else◌ is_blank filled
+unfolding head_read read_refusal head_at head_of value bytes_of first chosen is_blank filled
 takes_a_space_for_a_zero = taken 16 0x20 15 refl
 
 pub reads_31_bytes_as_13 : RulesOut read-packet-kinds.ps read-packet-kinds.r read-packet.Post (λ κs a. a.0.now ≡ take 31 need_i_1) (λ κs a x s. x ≡ refused 13)
-unfolding packet_read read_refusal first when◌then◌else◌
-reads_31_bytes_as_13 κs a x s e w p =
-    let q : Refused 13 ≡ Refused 12 = ap (λ (r : ReadPacket). r.head) (sym w ∙ p ∙ ap packet_read e) in
-    let z : ◌≡◌ {A = ℕ} 13 12 = cc in
-    unequal z refl
+unfolding head_read read_refusal first chosen
+reads_31_bytes_as_13 κs a x s e w p = unequal (ap refusal_in (sym w ∙ p ∙ ap packet_read e)) refl
 
 -- a reader of the head alone
-pub refuses_every_head : RulesOut read-head-kinds.ps read-head-kinds.r read-head.Post (λ κs a. a.0.now ≡ need_i_1) (λ κs a x s. (n : ℕ) × (x ≡ Refused n))
+pub refuses_every_head : RulesOut read-head-kinds.ps read-head-kinds.r read-head.Post (λ κs a. a.0.now ≡ need_i_1) (λ κs a x s. (r : Refusal) × (x ≡ result.Err r))
 refuses_every_head κs a x s e w p =
-    is_other w.0 (NeedI (record { 0 = 1 })) (sym w.1 ∙ p ∙ ap (λ (r : ReadPacket). r.head) (ap packet_read e ∙ need_i_1_read))
+    is_other w.0 (NeedI (record { 0 = 1 })) (sym w.1 ∙ p ∙ ap head_read e ∙ (was_read need_i_1 need_i_1_read).0)
 
-pub looks_at_no_message : RulesOut read-head-kinds.ps read-head-kinds.r read-head.Post (λ κs a. a.0.now ≡ set need_i_1 31 1) (λ κs a x s. x ≡ Is (NeedI (record { 0 = 1 })))
-unfolding packet_read read_refusal head_at head_of value bytes_of first when◌then◌else◌ is_blank filled
-looks_at_no_message κs a x s e w p = is_other 15 (NeedI (record { 0 = 1 })) (sym (p ∙ ap (λ (l : List ℕ). (packet_read l).head) e) ∙ w)
+pub looks_at_no_message : RulesOut read-head-kinds.ps read-head-kinds.r read-head.Post (λ κs a. a.0.now ≡ set need_i_1 31 1) (λ κs a x s. x ≡ result.Ok (NeedI (record { 0 = 1 })))
+unfolding head_read read_refusal head_at head_of value bytes_of first chosen is_blank filled
+looks_at_no_message κs a x s e w p = is_other WrongField (NeedI (record { 0 = 1 })) (sym (p ∙ ap head_read e) ∙ w)
 
 -- a writer that is lent zero bytes
-abbrev Writes : ℕ → Packet → ((κs : Lfts 1) → Dens κs write-packet-kinds.ps → ℕ → AtExit (ended_of 1 write-packet-kinds.ps write-packet-kinds.r) κs → Type 0) → Type 0
+abbrev Writes : ℕ → Packet → ((κs : Lfts 1) → Dens κs write-packet-kinds.ps → Result Unit Refusal → AtExit (ended_of 1 write-packet-kinds.ps write-packet-kinds.r) κs → Type 0) → Type 0
 Writes n q does = RulesOut write-packet-kinds.ps write-packet-kinds.r write-packet.Post (λ κs a. (a.0.now ≡ replicate n 0) × (a.1.0 ≡ q)) does
 
 pub changes_nothing : Writes 32 (need_i 1) (λ κs a x s. s.0.now ≡ a.0.now)
@@ -123,90 +116,87 @@ changes_nothing κs a x s e w p =
     unequal (ap (λ (l : List ℕ). get_or l 0 0) q) refl
 
 pub touches_on_15 : Writes 32 (need_i 0) (λ κs a x s. s.0.now ≡ a.0.now → ⊥)
-unfolding packet_written write_refusal fits first when◌then◌else◌
+unfolding packet_written write_refusal fits first chosen
 touches_on_15 κs a x s e w p = w (p.1 ∙ (λ i. packet_written (e.0 i) (e.1 i)) ∙ sym e.0)
 
-pub always_writes : Writes 32 (need_i 0) (λ κs a x s. x ≡ 0)
-unfolding write_refusal fits first when◌then◌else◌
-always_writes κs a x s e w p = unequal (sym w ∙ p.0 ∙ (λ i. write_refusal (length (e.0 i)) (e.1 i))) refl
+pub always_writes : Writes 32 (need_i 0) (λ κs a x s. x ≡ refused_by 0)
+unfolding write_refusal fits first chosen
+always_writes κs a x s e w p = unequal (ap refusal_in (sym w ∙ p.0 ∙ (λ i. refused_by (write_refusal (length (e.0 i)) (e.1 i))))) refl
 
-pub says_12_outside_the_table : Writes 32 (need_i 0) (λ κs a x s. x ≡ 12)
-unfolding write_refusal fits first when◌then◌else◌
-says_12_outside_the_table κs a x s e w p = unequal (sym w ∙ p.0 ∙ (λ i. write_refusal (length (e.0 i)) (e.1 i))) refl
+pub says_12_outside_the_table : Writes 32 (need_i 0) (λ κs a x s. x ≡ refused_by 12)
+unfolding write_refusal fits first chosen
+says_12_outside_the_table κs a x s e w p = unequal (ap refusal_in (sym w ∙ p.0 ∙ (λ i. refused_by (write_refusal (length (e.0 i)) (e.1 i))))) refl
 
-pub says_15_of_31_bytes : Writes 31 (need_i 0) (λ κs a x s. x ≡ 15)
-unfolding write_refusal first when◌then◌else◌
-says_15_of_31_bytes κs a x s e w p = unequal (sym w ∙ p.0 ∙ (λ i. write_refusal (length (e.0 i)) (e.1 i))) refl
+pub says_15_of_31_bytes : Writes 31 (need_i 0) (λ κs a x s. x ≡ refused_by 15)
+unfolding write_refusal first chosen
+says_15_of_31_bytes κs a x s e w p = unequal (ap refusal_in (sym w ∙ p.0 ∙ (λ i. refused_by (write_refusal (length (e.0 i)) (e.1 i))))) refl
 
 -- ## Number records
 
-pub always_refuses_record : RulesOut read-record-kinds.ps read-record-kinds.r read-record.Post (λ κs a. a.0.now ≡ record_bytes unused) (λ κs a x s. (n : ℕ) × (x ≡ Unread n))
-always_refuses_record κs a x s e w p = is-unread w.0 unused (sym w.1 ∙ p ∙ ap record_read e ∙ record_read_back unused (omega arith) refl)
+pub always_refuses_record : RulesOut read-record-kinds.ps read-record-kinds.r read-record.Post (λ κs a. a.0.now ≡ record_bytes unused) (λ κs a x s. (r : Refusal) × (x ≡ result.Err r))
+always_refuses_record κs a x s e w p = is_other w.0 unused (sym w.1 ∙ p ∙ ap record_read e ∙ record_read_back unused (omega arith) refl)
 
-pub accepts_every_record : RulesOut read-record-kinds.ps read-record-kinds.r read-record.Post (λ κs a. a.0.now ≡ []) (λ κs a x s. (r : NumberRecord) × (x ≡ Recorded r))
-unfolding record_read record_refusal first when◌then◌else◌
-accepts_every_record κs a x s e w p = is-unread 12 w.0 (sym (p ∙ ap record_read e) ∙ w.1)
+pub accepts_every_record : RulesOut read-record-kinds.ps read-record-kinds.r read-record.Post (λ κs a. a.0.now ≡ []) (λ κs a x s. (r : NumberRecord) × (x ≡ result.Ok r))
+unfolding record_read record_refusal first chosen
+accepts_every_record κs a x s e w p = is_other (refusal_of 12) w.0 (sym (p ∙ ap record_read e) ∙ w.1)
 
 -- a reader that takes bytes that it should have refused by this number
 abbrev TakesRecord : List ℕ → Type 0
-TakesRecord bytes = RulesOut read-record-kinds.ps read-record-kinds.r read-record.Post (λ κs a. a.0.now ≡ bytes) (λ κs a x s. (r : NumberRecord) × (x ≡ Recorded r))
+TakesRecord bytes = RulesOut read-record-kinds.ps read-record-kinds.r read-record.Post (λ κs a. a.0.now ≡ bytes) (λ κs a x s. (r : NumberRecord) × (x ≡ result.Ok r))
 
-took : (bytes : List ℕ) (n : ℕ) → record_read bytes ≡ Unread n → TakesRecord bytes
-took bytes n r κs a x s e w p = is-unread n w.0 (sym (p ∙ ap record_read e ∙ r) ∙ w.1)
+took : (bytes : List ℕ) (n : ℕ) → record_read bytes ≡ result.Err (refusal_of n) → TakesRecord bytes
+took bytes n r κs a x s e w p = is_other (refusal_of n) w.0 (sym (p ∙ ap record_read e ∙ r) ∙ w.1)
 
 -- a record of version 2 with this version and this block in it
 abbrev new : ℕ → ℕ → List ℕ
 new version block = 0x48 ∷ 0x53 ∷ 0x4E ∷ 0 ∷ version ∷ 1 ∷ 0 ∷ 0 ∷ 0 ∷ 0 ∷ 0 ∷ 7 ∷ bytes_of 2 block ++ (0 ∷ 0 ∷ [])
 
 pub takes_version_2_of_12_bytes : TakesRecord (take 12 (new 2 64))
-unfolding record_read record_refusal record_at block_at record_of value bytes_of first when◌then◌else◌
+unfolding record_read record_refusal record_at block_at record_of value bytes_of first chosen
 takes_version_2_of_12_bytes = took (take 12 (new 2 64)) 14 refl
 
 pub takes_version_1_of_16_bytes : TakesRecord (new 1 64)
-unfolding record_read record_refusal record_at block_at record_of value bytes_of first when◌then◌else◌
+unfolding record_read record_refusal record_at block_at record_of value bytes_of first chosen
 takes_version_1_of_16_bytes = took (new 1 64) 14 refl
 
 pub takes_block_0 : TakesRecord (new 2 0)
-unfolding record_read record_refusal record_at block_at record_of value bytes_of first when◌then◌else◌
+unfolding record_read record_refusal record_at block_at record_of value bytes_of first chosen
 takes_block_0 = took (new 2 0) 15 refl
 
 pub takes_block_1025 : TakesRecord (new 2 1025)
-unfolding record_read record_refusal record_at block_at record_of value bytes_of first when◌then◌else◌
+unfolding record_read record_refusal record_at block_at record_of value bytes_of first chosen
 takes_block_1025 = took (new 2 1025) 15 refl
 
 pub takes_a_byte_after_the_block : TakesRecord (set (new 2 64) 15 1)
-unfolding record_read record_refusal record_at block_at record_of value bytes_of first when◌then◌else◌
+unfolding record_read record_refusal record_at block_at record_of value bytes_of first chosen
 takes_a_byte_after_the_block = took (set (new 2 64) 15 1) 15 refl
 
-pub says_14_before_13 : RulesOut read-record-kinds.ps read-record-kinds.r read-record.Post (λ κs a. a.0.now ≡ set (new 1 64) 0 0x49) (λ κs a x s. x ≡ Unread 14)
-unfolding record_read record_refusal bytes_of first when◌then◌else◌
-says_14_before_13 κs a x s e w p =
-    let q : Unread 14 ≡ Unread 13 = sym w ∙ p ∙ ap record_read e in
-    let z : ◌≡◌ {A = ℕ} 14 13 = cc in
-    unequal z refl
+pub says_14_before_13 : RulesOut read-record-kinds.ps read-record-kinds.r read-record.Post (λ κs a. a.0.now ≡ set (new 1 64) 0 0x49) (λ κs a x s. x ≡ result.Err (refusal_of 14))
+unfolding record_read record_refusal bytes_of first chosen
+says_14_before_13 κs a x s e w p = unequal (ap refusal_in (sym w ∙ p ∙ ap record_read e)) refl
 
 -- a writer
-abbrev WritesRecord : List ℕ → NumberRecord → ((κs : Lfts 1) → Dens κs write-record-kinds.ps → ℕ → AtExit (ended_of 1 write-record-kinds.ps write-record-kinds.r) κs → Type 0) → Type 0
+abbrev WritesRecord : List ℕ → NumberRecord → ((κs : Lfts 1) → Dens κs write-record-kinds.ps → Result Unit Refusal → AtExit (ended_of 1 write-record-kinds.ps write-record-kinds.r) κs → Type 0) → Type 0
 WritesRecord out r does = RulesOut write-record-kinds.ps write-record-kinds.r write-record.Post (λ κs a. (a.0.now ≡ out) × (a.1.0 ≡ r)) does
 
 pub changes_no_record : WritesRecord (replicate 12 0) unused (λ κs a x s. s.0.now ≡ a.0.now)
-unfolding record_written record_write_refusal record_bytes first when◌then◌else◌
+unfolding record_written record_write_refusal record_bytes first chosen
 changes_no_record κs a x s e w p =
     let q : replicate 12 0 ≡ record_bytes unused = sym e.0 ∙ sym w ∙ p.1 ∙ (λ i. record_written (e.0 i) (e.1 i)) in
     unequal (ap (λ (l : List ℕ). get_or l 0 0) q) refl
 
 -- one that looks for 12 bytes at least
-pub writes_to_13_bytes : WritesRecord (replicate 13 0) unused (λ κs a x s. x ≡ 0)
-unfolding record_write_refusal first when◌then◌else◌
-writes_to_13_bytes κs a x s e w p = unequal (sym w ∙ p.0 ∙ (λ i. record_write_refusal (length (e.0 i)) (e.1 i))) refl
+pub writes_to_13_bytes : WritesRecord (replicate 13 0) unused (λ κs a x s. x ≡ refused_by 0)
+unfolding record_write_refusal first chosen
+writes_to_13_bytes κs a x s e w p = unequal (ap refusal_in (sym w ∙ p.0 ∙ (λ i. refused_by (record_write_refusal (length (e.0 i)) (e.1 i))))) refl
 
-pub writes_block_1025 : WritesRecord (replicate 16 0) (Console (record { 0 = 7 }) 1025) (λ κs a x s. x ≡ 0)
-unfolding record_write_refusal first when◌then◌else◌
-writes_block_1025 κs a x s e w p = unequal (sym w ∙ p.0 ∙ (λ i. record_write_refusal (length (e.0 i)) (e.1 i))) refl
+pub writes_block_1025 : WritesRecord (replicate 16 0) (Console (record { 0 = 7 }) 1025) (λ κs a x s. x ≡ refused_by 0)
+unfolding record_write_refusal first chosen
+writes_block_1025 κs a x s e w p = unequal (ap refusal_in (sym w ∙ p.0 ∙ (λ i. refused_by (record_write_refusal (length (e.0 i)) (e.1 i))))) refl
 
-pub writes_version_1_to_16_bytes : WritesRecord (replicate 16 0) unused (λ κs a x s. x ≡ 0)
-unfolding record_write_refusal first when◌then◌else◌
-writes_version_1_to_16_bytes κs a x s e w p = unequal (sym w ∙ p.0 ∙ (λ i. record_write_refusal (length (e.0 i)) (e.1 i))) refl
+pub writes_version_1_to_16_bytes : WritesRecord (replicate 16 0) unused (λ κs a x s. x ≡ refused_by 0)
+unfolding record_write_refusal first chosen
+writes_version_1_to_16_bytes κs a x s e w p = unequal (ap refusal_in (sym w ∙ p.0 ∙ (λ i. refused_by (record_write_refusal (length (e.0 i)) (e.1 i))))) refl
 
 -- ## Heads
 
@@ -216,26 +206,32 @@ always_to_the_controller κs a x s e w p = let q : ToController ≡ ToConsole = 
 pub swaps_the_directions : RulesOut direction-of-kinds.ps direction-of-kinds.r direction-of.Post (λ κs a. a.0 ≡ NeedI (record { 0 = 1 })) (λ κs a x s. x ≡ ToConsole)
 swaps_the_directions κs a x s e w p = let q : ToConsole ≡ ToController = sym w ∙ p ∙ ap direction_of e in clash cc
 
-pub need_i_with_a_second_number : RulesOut head-of-kinds.ps head-of-kinds.r head-of.Post (λ κs a. (a.0 ≡ 1) × (a.1.0 ≡ 1) × (a.1.1.0 ≡ 1)) (λ κs a x s. x ≡ Is (NeedI (record { 0 = 1 })))
-unfolding head_of when◌then◌else◌
-need_i_with_a_second_number κs a x s e w p = is_other 15 (NeedI (record { 0 = 1 })) (sym (p ∙ (λ i. head_of (e.0 i) (e.1 i) (e.2 i))) ∙ w)
+abbrev Heads : Fields → Result Head Refusal → Type 0
+Heads f h = RulesOut head-of-kinds.ps head-of-kinds.r head-of.Post (λ κs a. a.0 ≡ f) (λ κs a x s. x ≡ h)
 
-abbrev Heads : ℕ → ReadHead → Type 0
-Heads i h = RulesOut head-of-kinds.ps head-of-kinds.r head-of.Post (λ κs a. (a.0 ≡ 2) × (a.1.0 ≡ 1) × (a.1.1.0 ≡ i)) (λ κs a x s. x ≡ h)
+abbrev fields : ℕ → ℕ → ℕ → Fields
+fields k a b = record { kind = k; first = a; second = b }
 
-pub refuses_an_offer_of_1 : Heads 1 (Refused 15)
-unfolding head_of when◌then◌else◌
-refuses_an_offer_of_1 κs a x s e w p = is_other 15 (Offer (record { 0 = 1 }) (record { 0 = 1 })) (sym w ∙ p ∙ (λ i. head_of (e.0 i) (e.1 i) (e.2 i)))
+abbrev head_in : Fields → Result Head Refusal
+head_in f = head_of f.kind f.first f.second
 
-pub takes_an_offer_of_0 : Heads 0 (Is (Offer (record { 0 = 1 }) (record { 0 = 0 })))
-unfolding head_of when◌then◌else◌
-takes_an_offer_of_0 κs a x s e w p = is_other 15 (Offer (record { 0 = 1 }) (record { 0 = 0 })) (sym (p ∙ (λ i. head_of (e.0 i) (e.1 i) (e.2 i))) ∙ w)
+pub need_i_with_a_second_number : Heads (fields 1 1 1) (result.Ok (NeedI (record { 0 = 1 })))
+unfolding head_of chosen
+need_i_with_a_second_number κs a x s e w p = is_other WrongField (NeedI (record { 0 = 1 })) (sym (p ∙ ap head_in e) ∙ w)
+
+pub refuses_an_offer_of_1 : Heads (fields 2 1 1) (result.Err WrongField)
+unfolding head_of chosen
+refuses_an_offer_of_1 κs a x s e w p = is_other WrongField (Offer (record { 0 = 1 }) (record { 0 = 1 })) (sym w ∙ p ∙ ap head_in e)
+
+pub takes_an_offer_of_0 : Heads (fields 2 1 0) (result.Ok (Offer (record { 0 = 1 }) (record { 0 = 0 })))
+unfolding head_of chosen
+takes_an_offer_of_0 κs a x s e w p = is_other WrongField (Offer (record { 0 = 1 }) (record { 0 = 0 })) (sym (p ∙ ap head_in e) ∙ w)
 
 pub first_number_twice : RulesOut fields-of-kinds.ps fields-of-kinds.r fields-of.Post (λ κs a. a.0 ≡ NeedI (record { 0 = 1 })) (λ κs a x s. x.second ≡ x.first)
-first_number_twice κs a x s e w p = unequal (sym (p.1 ∙ ap first_of e) ∙ sym w ∙ p.2 ∙ ap second_of e) refl
+first_number_twice κs a x s e w p = let q = p ∙ ap fields_of e in unequal (sym (ap (λ (f : Fields). f.first) q) ∙ sym w ∙ ap (λ (f : Fields). f.second) q) refl
 
 pub kind_5_for_ok : RulesOut fields-of-kinds.ps fields-of-kinds.r fields-of.Post (λ κs a. a.0 ≡ Ok (record { 0 = 1 })) (λ κs a x s. x.kind ≡ 5)
-kind_5_for_ok κs a x s e w p = unequal (sym w ∙ p.0 ∙ ap kind_of e) refl
+kind_5_for_ok κs a x s e w p = unequal (sym w ∙ ap (λ (f : Fields). f.kind) (p ∙ ap fields_of e)) refl
 
 -- ## Numbers
 
@@ -249,44 +245,48 @@ always_zeros κs a x s e w p = unequal (ap (λ (l : List ℕ). get_or l 3 0) (sy
 
 -- ## What a number record has
 
-pub always_end_1 : RulesOut end-of-kinds.ps end-of-kinds.r end-of.Post (λ κs a. a.0 ≡ ControllerOld (record { 0 = 0 })) (λ κs a x s. x ≡ 1)
-always_end_1 κs a x s e w p = unequal (sym w ∙ p ∙ ap end_of e) refl
+abbrev Says : NumberRecord → (NumberRecord → RecordFields → Type 0) → Type 0
+Says r wrong = RulesOut record-fields-kinds.ps record-fields-kinds.r record-fields.Post (λ κs a. a.0 ≡ r) (λ κs a x s. wrong a.0 x)
 
-pub ends_from_0 : RulesOut end-of-kinds.ps end-of-kinds.r end-of.Post (λ κs a. a.0 ≡ unused) (λ κs a x s. x ≡ 0)
-ends_from_0 κs a x s e w p = unequal (sym w ∙ p ∙ ap end_of e) refl
+pub always_end_1 : Says (ControllerOld (record { 0 = 0 })) (λ r f. f.end ≡ 1)
+always_end_1 κs a x s e w p = unequal (sym w ∙ ap (λ (f : RecordFields). f.end) (p ∙ ap record_fields e)) refl
 
-pub always_number_0 : RulesOut number-of-kinds.ps number-of-kinds.r number-of.Post (λ κs a. a.0 ≡ ConsoleOld (record { 0 = 1 })) (λ κs a x s. x ≡ 0)
-always_number_0 κs a x s e w p = unequal (sym w ∙ p ∙ ap number_of e) refl
+pub ends_from_0 : Says unused (λ r f. f.end ≡ 0)
+ends_from_0 κs a x s e w p = unequal (sym w ∙ ap (λ (f : RecordFields). f.end) (p ∙ ap record_fields e)) refl
 
-pub next_number : RulesOut number-of-kinds.ps number-of-kinds.r number-of.Post (λ κs a. a.0 ≡ ConsoleOld (record { 0 = 1 })) (λ κs a x s. x ≡ suc (number_of a.0))
-next_number κs a x s e w p = unequal (sym (ap (λ r. suc (number_of r)) e) ∙ sym w ∙ p ∙ ap number_of e) refl
+pub always_number_0 : Says (ConsoleOld (record { 0 = 1 })) (λ r f. f.number ≡ 0)
+always_number_0 κs a x s e w p = unequal (sym w ∙ ap (λ (f : RecordFields). f.number) (p ∙ ap record_fields e)) refl
 
-pub block_64_of_version_1 : RulesOut block-of-kinds.ps block-of-kinds.r block-of.Post (λ κs a. a.0 ≡ unused) (λ κs a x s. x ≡ 64)
-block_64_of_version_1 κs a x s e w p = unequal (sym w ∙ p ∙ ap block_of e) refl
+pub next_number : Says (ConsoleOld (record { 0 = 1 })) (λ r f. f.number ≡ suc (number_of r))
+next_number κs a x s e w p =
+    unequal (sym (ap (λ r. suc (number_of r)) e) ∙ sym w ∙ ap (λ (f : RecordFields). f.number) (p ∙ ap record_fields e)) refl
 
-pub always_block_0 : RulesOut block-of-kinds.ps block-of-kinds.r block-of.Post (λ κs a. a.0 ≡ Console (record { 0 = 7 }) 64) (λ κs a x s. x ≡ 0)
-always_block_0 κs a x s e w p = unequal (sym w ∙ p ∙ ap block_of e) refl
+pub block_64_of_version_1 : Says unused (λ r f. f.block ≡ 64)
+block_64_of_version_1 κs a x s e w p = unequal (sym w ∙ ap (λ (f : RecordFields). f.block) (p ∙ ap record_fields e)) refl
+
+pub always_block_0 : Says (Console (record { 0 = 7 }) 64) (λ r f. f.block ≡ 0)
+always_block_0 κs a x s e w p = unequal (sym w ∙ ap (λ (f : RecordFields). f.block) (p ∙ ap record_fields e)) refl
 
 -- ## A record of an end, a number and a block
 
-abbrev Makes : ℕ → ℕ → ℕ → ReadRecord → Type 0
-Makes end number block y = RulesOut record-of-kinds.ps record-of-kinds.r record-of.Post (λ κs a. (a.0 ≡ end) × (a.1.0 ≡ number) × (a.1.1.0 ≡ block)) (λ κs a x s. x ≡ y)
+abbrev made : RecordFields → Result NumberRecord Refusal
+made f = record_of f.end f.number f.block
 
-pub refuses_number_0 : Makes 1 0 0 (Unread 15)
-unfolding record_of when◌then◌else◌
-refuses_number_0 κs a x s e w p = is-unread 15 unused (sym w ∙ p ∙ (λ i. record_of (e.0 i) (e.1 i) (e.2 i)))
+abbrev Makes : ℕ → ℕ → ℕ → Result NumberRecord Refusal → Type 0
+Makes end number block y = RulesOut record-of-kinds.ps record-of-kinds.r record-of.Post (λ κs a. a.0 ≡ record { end = end; number = number; block = block }) (λ κs a x s. x ≡ y)
 
-pub says_14_of_end_3 : Makes 3 0 0 (Unread 14)
-unfolding record_of when◌then◌else◌
-says_14_of_end_3 κs a x s e w p =
-    let q : Unread 14 ≡ Unread 15 = sym w ∙ p ∙ (λ i. record_of (e.0 i) (e.1 i) (e.2 i)) in
-    let z : ◌≡◌ {A = ℕ} 14 15 = cc in
-    unequal z refl
+pub refuses_number_0 : Makes 1 0 0 (result.Err WrongField)
+unfolding record_of chosen
+refuses_number_0 κs a x s e w p = is_other WrongField unused (sym w ∙ p ∙ ap made e)
 
-pub version_2_with_block_0 : Makes 1 7 0 (Recorded (Console (record { 0 = 7 }) 0))
-unfolding record_of when◌then◌else◌
+pub says_14_of_end_3 : Makes 3 0 0 (result.Err (refusal_of 14))
+unfolding record_of chosen
+says_14_of_end_3 κs a x s e w p = unequal (ap refusal_in (sym w ∙ p ∙ ap made e)) refl
+
+pub version_2_with_block_0 : Makes 1 7 0 (result.Ok (Console (record { 0 = 7 }) 0))
+unfolding record_of chosen
 version_2_with_block_0 κs a x s e w p =
-    let q : Recorded (Console (record { 0 = 7 }) 0) ≡ Recorded (ConsoleOld (record { 0 = 7 })) = sym w ∙ p ∙ (λ i. record_of (e.0 i) (e.1 i) (e.2 i)) in
+    let q = is_one (Console (record { 0 = 7 }) 0) (ConsoleOld (record { 0 = 7 })) (sym w ∙ p ∙ ap made e) in
     clash cc
 
 -- ## A record carried from version to version

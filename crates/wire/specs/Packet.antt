@@ -1,19 +1,21 @@
 -- Packets, 32 bytes: the table of kinds, and what reading and writing are by it. Assumes nothing.
-use Rattle.std.specs.Prelude.{ℕ, Bool, false, not, ◌&&◌, List, [], ◌∷◌, ◌++◌, length, get_or, drop, replicate, eqb}
+use Rattle.std.specs.Prelude.{ℕ, Bool, false, not, ◌&&◌, List, [], ◌∷◌, ◌++◌, length, get_or, drop, eqb, Result}
+use Rattle.std.specs.Prelude as result
 use Rattle.ground.specs.Cell.{is_message}
 use Rattle.ground.specs.Choice.{when◌then◌else◌}
 use Rattle.ground.specs.Every.{every, filled}
 use Rattle.ground.specs.First.{first}
+use Rattle.ground.specs.Refusals.{refusal_of}
+use Rattle.ground.specs.declared.refusals.Refusal.{Refusal}
+use Rattle.ground.specs.declared.refusals.Refusal.TheVariants.{WrongField}
 use Rattle.wire.specs.Frame.{field, frame, read_refusals, found}
 use Rattle.wire.specs.Number.{bytes_of, value}
 use Rattle.wire.specs.declared.Direction.{Direction}
 use Rattle.wire.specs.declared.Direction.TheVariants.{ToController, ToConsole}
 use Rattle.wire.specs.declared.Head.{Head}
 use Rattle.wire.specs.declared.Head.TheVariants.{NeedI, Offer, Data, Ok, Lost, Done}
-use Rattle.wire.specs.declared.ReadHead.{ReadHead}
-use Rattle.wire.specs.declared.ReadHead.TheVariants.{Refused, Is}
 use Rattle.wire.specs.declared.Packet.{Packet}
-use Rattle.wire.specs.declared.ReadPacket.{ReadPacket}
+use Rattle.wire.specs.declared.packets.Fields.{Fields}
 
 -- 16 zero bytes
 unfoldable pub is_blank : List ℕ → Bool
@@ -51,6 +53,9 @@ first_of h = get_or (table h).numbers 0 0
 abbrev pub second_of : Head → ℕ
 second_of h = get_or (table h).numbers 1 0
 
+abbrev pub fields_of : Head → Fields
+fields_of h = record { kind = kind_of h; first = first_of h; second = second_of h }
+
 abbrev pub numbered : Head → Bool
 numbered h = every (λ n. not (eqb n 0)) (table h).numbers
 
@@ -74,28 +79,36 @@ heads a b =
     ∷ []
 
 -- the head with this kind and these numbers in the table
-unfoldable pub head_of : ℕ → ℕ → ℕ → ReadHead
-head_of k a b = found (λ h. numbered h && eqb k (kind_of h) && eqb b (second_of h)) Is (Refused 15) (heads a b)
+unfoldable pub head_of : ℕ → ℕ → ℕ → Result Head Refusal
+head_of k a b = found (λ h. numbered h && eqb k (kind_of h) && eqb b (second_of h)) result.Ok (result.Err WrongField) (heads a b)
 
-unfoldable pub head_at : List ℕ → ReadHead
+unfoldable pub head_at : List ℕ → Result Head Refusal
 head_at s = head_of (get_or s 5 0) (value (field s 8 4)) (value (field s 12 4))
 
-abbrev pub carries : ReadHead → List ℕ → Bool
-carries (Refused n) m = false
-carries (Is h) m = (table h).message m
+abbrev pub carries : Result Head Refusal → List ℕ → Bool
+carries (result.Err r) m = false
+carries (result.Ok h) m = (table h).message m
 
 -- the first refusal of a read, or 0
 unfoldable pub read_refusal : List ℕ → ℕ
 read_refusal s = first (read_refusals 32 0x4C 1 s (carries (head_at s) (drop 16 s)))
 
-abbrev pub refused : ℕ → ReadPacket
-refused n = record { head = Refused n; message = replicate 16 0 }
+unfoldable pub head_read : List ℕ → Result Head Refusal
+head_read s = when eqb (read_refusal s) 0 then head_at s else result.Err (refusal_of (read_refusal s))
 
-abbrev pub accepted : Packet → ReadPacket
-accepted p = record { head = Is p.head; message = p.message }
+-- a head that was read, with the message
+abbrev pub with_message : Result Head Refusal → List ℕ → Result Packet Refusal
+with_message (result.Err r) m = result.Err r
+with_message (result.Ok h) m = result.Ok (record { head = h; message = m })
 
-unfoldable pub packet_read : List ℕ → ReadPacket
-packet_read s = when eqb (read_refusal s) 0 then record { head = head_at s; message = drop 16 s } else refused (read_refusal s)
+abbrev pub packet_read : List ℕ → Result Packet Refusal
+packet_read s = with_message (head_read s) (drop 16 s)
+
+abbrev pub refused : ℕ → Result Packet Refusal
+refused n = result.Err (refusal_of n)
+
+abbrev pub accepted : Packet → Result Packet Refusal
+accepted p = result.Ok p
 
 -- the first refusal of a write to n bytes, or 0, and the bytes after it
 unfoldable pub write_refusal : ℕ → Packet → ℕ

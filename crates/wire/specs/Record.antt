@@ -1,15 +1,17 @@
 -- Number records: version 1, 12 bytes, and version 2, 16 bytes. Assumes nothing.
-use Rattle.std.specs.Prelude.{ℕ, Bool, true, false, not, ◌&&◌, ◌||◌, List, [], ◌∷◌, ◌++◌, length, get_or, eqb}
+use Rattle.std.specs.Prelude.{ℕ, Bool, true, false, not, ◌&&◌, ◌||◌, List, [], ◌∷◌, ◌++◌, length, get_or, eqb, Result, Ok, Err}
 pub use Rattle.ground.specs.Block.{is_block}
 use Rattle.ground.specs.Block.{fresh_block}
 use Rattle.ground.specs.Choice.{when◌then◌else◌}
 use Rattle.ground.specs.First.{first}
+use Rattle.ground.specs.Refusals.{refusal_of}
+use Rattle.ground.specs.declared.refusals.Refusal.{Refusal}
+use Rattle.ground.specs.declared.refusals.Refusal.TheVariants.{WrongField}
 use Rattle.wire.specs.Frame.{field, bytes_are, frame, read_refusals, found}
 use Rattle.wire.specs.Number.{bytes_of, value}
 use Rattle.wire.specs.declared.NumberRecord.{NumberRecord}
 use Rattle.wire.specs.declared.NumberRecord.TheVariants.{ConsoleOld, ControllerOld, Console, Controller}
-use Rattle.wire.specs.declared.ReadRecord.{ReadRecord}
-use Rattle.wire.specs.declared.ReadRecord.TheVariants.{Refused, Is}
+use Rattle.wire.specs.declared.records.RecordFields.{RecordFields}
 
 -- version 1
 abbrev pub is_old : NumberRecord → Bool
@@ -38,6 +40,9 @@ block_of (ControllerOld i) = 0
 block_of (Console j b) = b
 block_of (Controller i b) = b
 
+abbrev pub record_fields : NumberRecord → RecordFields
+record_fields r = record { end = end_of r; number = number_of r; block = block_of r }
+
 -- the block of version 2 is one
 abbrev pub is_good : NumberRecord → Bool
 is_good r = is_old r || is_block (block_of r)
@@ -64,19 +69,19 @@ records n b =
     else Console (record { 0 = n }) b ∷ Controller (record { 0 = n }) b ∷ []
 
 -- the one of this end
-unfoldable pub record_of : ℕ → ℕ → ℕ → ReadRecord
-record_of e n b = found (λ r. eqb e (end_of r)) Is (Refused 15) (records n b)
+unfoldable pub record_of : ℕ → ℕ → ℕ → Result NumberRecord Refusal
+record_of e n b = found (λ r. eqb e (end_of r)) Ok (Err WrongField) (records n b)
 
 -- bytes 12-13 of version 2
 unfoldable pub block_at : List ℕ → ℕ
 block_at s = when eqb (length s) 16 then value (field s 12 2) else 0
 
-unfoldable pub record_at : List ℕ → ReadRecord
+unfoldable pub record_at : List ℕ → Result NumberRecord Refusal
 record_at s = record_of (get_or s 5 0) (value (field s 8 4)) (block_at s)
 
-abbrev pub is_read : ReadRecord → Bool
-is_read (Refused n) = false
-is_read (Is r) = true
+abbrev pub is_read : Result NumberRecord Refusal → Bool
+is_read (Err r) = false
+is_read (Ok r) = true
 
 -- the first refusal of a read, or 0. 16 bytes are to be version 2; any others are to be version 1, which refuses all but 12 bytes: neither is 12, a
 -- version not of that length 14, a block out of range or bytes 14-15 not zero 15
@@ -85,8 +90,8 @@ record_refusal s =
     when eqb (length s) 16 then first (read_refusals 16 0x4E 2 s (is_read (record_at s) && is_block (block_at s) && bytes_are s 14 (bytes_of 2 0)))
     else first (read_refusals 12 0x4E 1 s (is_read (record_at s)))
 
-unfoldable pub record_read : List ℕ → ReadRecord
-record_read s = when eqb (record_refusal s) 0 then record_at s else Refused (record_refusal s)
+unfoldable pub record_read : List ℕ → Result NumberRecord Refusal
+record_read s = when eqb (record_refusal s) 0 then record_at s else Err (refusal_of (record_refusal s))
 
 -- ## Writing
 

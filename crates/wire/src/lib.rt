@@ -6,20 +6,18 @@ mod packets;
 mod records;
 
 pub use frame::{big_endian, big_endian_16, from_big_endian, from_big_endian_16};
-pub use packets::{Fields, direction_of, fields_of, head_of, read_head, read_packet, write_packet};
-pub use records::{
-    aged, block_of, end_of, number_of, read_record, record_of, renewed, write_record,
-};
+pub use packets::{Fields, direction_of, read_head, read_packet, write_packet};
+pub use records::{RecordFields, aged, read_record, renewed, write_record};
 
-// A console's request. A J is only ever compared with a J.
-#[derive(Clone, Copy)]
+// A console's request. A J is only ever compared with a J. 0 is none.
+#[derive(Clone, Copy, PartialEq, Eq)]
 pub struct J(pub u32);
 
-// An order's permission. An I is only ever compared with an I.
-#[derive(Clone, Copy)]
+// An order's permission. An I is only ever compared with an I. 0 is none.
+#[derive(Clone, Copy, PartialEq, Eq)]
 pub struct I(pub u32);
 
-#[derive(Clone, Copy)]
+#[derive(Clone, Copy, PartialEq, Eq)]
 pub enum Direction {
     ToController,
     ToConsole,
@@ -42,19 +40,6 @@ pub struct Packet {
     pub message: [u8; 16],
 }
 
-#[derive(Clone, Copy)]
-pub enum ReadHead {
-    Refused(u8),
-    Is(Head),
-}
-
-// The message stands beside the head: 16 zero bytes beside a refusal.
-#[derive(Clone, Copy)]
-pub struct ReadPacket {
-    pub head: ReadHead,
-    pub message: [u8; 16],
-}
-
 // An end's number record: of version 1 with last used, of version 2 with reserved and block. A number is 0 where none was used yet.
 #[derive(Clone, Copy)]
 pub enum NumberRecord {
@@ -62,10 +47,4 @@ pub enum NumberRecord {
     ControllerOld(I),
     Console(J, u16),
     Controller(I, u16),
-}
-
-#[derive(Clone, Copy)]
-pub enum ReadRecord {
-    Refused(u8),
-    Is(NumberRecord),
 }

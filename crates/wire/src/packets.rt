@@ -1,27 +1,25 @@
 // Packets of 32 bytes.
 ghost use Rattle.std.specs.Prelude.{◌≡◌, ◌++◌, length, drop};
+ghost use Rattle.ground.specs.Refusals.{refused_by};
 ghost use Rattle.wire.specs.Frame.{frame};
 ghost use Rattle.wire.specs.Number.{bytes_of};
 ghost use Rattle.wire.specs.Packet.{kind_of, direction_of, first_of, second_of, numbered, table, fits, packet_bytes};
-ghost use Rattle.wire.specs.Packet.{head_of, head_at, carries, refused, packet_read, write_refusal, packet_written};
+ghost use Rattle.wire.specs.Packet.{fields_of, head_of, head_at, head_read, packet_read, write_refusal, packet_written};
 
-use crate::frame::{big_endian, frame_refusal, number_at};
-use crate::{Direction, Head, I, J, Packet, ReadHead, ReadPacket};
+use crate::frame::{big_endian, check_frame, number_at};
+use crate::{Direction, Head, I, J, Packet};
+use ground::Refusal;
 
 pub fn direction_of(head: Head) -> Direction
     ensures { result ≡ direction_of head }
 {
     match head {
-        Head::NeedI(_) => Direction::ToController,
-        Head::Offer(_, _) => Direction::ToConsole,
-        Head::Data(_) => Direction::ToController,
-        Head::Ok(_) => Direction::ToConsole,
-        Head::Lost(_) => Direction::ToConsole,
-        Head::Done(_) => Direction::ToController,
+        Head::NeedI(_) | Head::Data(_) | Head::Done(_) => Direction::ToController,
+        Head::Offer(_, _) | Head::Ok(_) | Head::Lost(_) => Direction::ToConsole,
     }
 }
 
-// What bytes 5 and 8 to 15 say of a head.
+// What bytes 5 and 8 to 15 say of a head; the kind is the byte itself.
 #[derive(Clone, Copy)]
 pub struct Fields {
     pub kind: u8,
@@ -29,100 +27,75 @@ pub struct Fields {
     pub second: u32,
 }
 
-pub fn fields_of(h: Head) -> Fields
-    ensures { (result.kind ≡ kind_of h) × (result.first ≡ first_of h) × (result.second ≡ second_of h) }
-{
-    match h {
-        Head::NeedI(j) => Fields {
-            kind: 1,
-            first: j.0,
-            second: 0,
-        },
-        Head::Offer(j, i) => Fields {
-            kind: 2,
-            first: j.0,
-            second: i.0,
-        },
-        Head::Data(i) => Fields {
-            kind: 3,
-            first: i.0,
-            second: 0,
-        },
-        Head::Ok(i) => Fields {
-            kind: 4,
-            first: i.0,
-            second: 0,
-        },
-        Head::Lost(i) => Fields {
-            kind: 5,
-            first: i.0,
-            second: 0,
-        },
-        Head::Done(i) => Fields {
-            kind: 6,
-            first: i.0,
-            second: 0,
-        },
-    }
-}
+impl From<Head> for Fields {
+    ghost from_gives = { λ h f. f ≡ fields_of h };
 
-// Whether a message is as the head's line of the table says.
-fn message_fits(h: Head, m: &[u8]) -> bool
-    requires { length m.now ≡ 16 }
-    ensures { result ≡ (table h).message m.now }
-{
-    match h {
-        Head::Data(_) => ground::all_cells(m),
-        Head::NeedI(_) | Head::Offer(_, _) | Head::Ok(_) | Head::Lost(_) | Head::Done(_) => {
-            ground::all_are(m, 0)
+    fn from(head: Head) -> Fields {
+        let (kind, first, second) = match head {
+            Head::NeedI(j) => (1, j.0, 0),
+            Head::Offer(j, i) => (2, j.0, i.0),
+            Head::Data(i) => (3, i.0, 0),
+            Head::Ok(i) => (4, i.0, 0),
+            Head::Lost(i) => (5, i.0, 0),
+            Head::Done(i) => (6, i.0, 0),
+        };
+        Fields {
+            kind,
+            first,
+            second,
         }
     }
 }
 
 // The head of a kind with these numbers.
-pub fn head_of(k: u8, a: u32, b: u32) -> ReadHead
-    ensures { result ≡ head_of k a b }
-{
-    if a == 0 {
-        return ReadHead::Refused(15);
-    }
-    if k == 2 {
-        if b == 0 {
-            return ReadHead::Refused(15);
+impl TryFrom<Fields> for Head {
+    type Error = Refusal;
+
+    ghost try_from_gives = { λ f r. r ≡ head_of f.kind f.first f.second };
+
+    #[tactic(auto, using(ground::proofs::Cases::cases), unfolding(crate::specs::Packet::head_of, ground::specs::Choice::chosen))]
+    fn try_from(f: Fields) -> Result<Head, Refusal> {
+        if f.first == 0 {
+            return Err(Refusal::WrongField);
         }
-        return ReadHead::Is(Head::Offer(J(a), I(b)));
-    }
-    if b != 0 {
-        return ReadHead::Refused(15);
-    }
-    match k {
-        1 => ReadHead::Is(Head::NeedI(J(a))),
-        3 => ReadHead::Is(Head::Data(I(a))),
-        4 => ReadHead::Is(Head::Ok(I(a))),
-        5 => ReadHead::Is(Head::Lost(I(a))),
-        6 => ReadHead::Is(Head::Done(I(a))),
-        _ => ReadHead::Refused(15),
+        match (f.second, f.kind) {
+            (0, 1) => Ok(Head::NeedI(J(f.first))),
+            (0, 3) => Ok(Head::Data(I(f.first))),
+            (0, 4) => Ok(Head::Ok(I(f.first))),
+            (0, 5) => Ok(Head::Lost(I(f.first))),
+            (0, 6) => Ok(Head::Done(I(f.first))),
+            (second, 2) if second != 0 => Ok(Head::Offer(J(f.first), I(second))),
+            _ => Err(Refusal::WrongField),
+        }
     }
 }
 
-fn head_at(s: &[u8]) -> ReadHead
+// Whether a message is as the head's line of the table says.
+#[inline(always)]
+#[tactic(auto, unfolding(crate::specs::Packet::is_blank, ground::specs::Cell::is_message))]
+fn message_fits(head: Head, m: &[u8]) -> bool
+    requires { length m.now ≡ 16 }
+    ensures { result ≡ (table head).message m.now }
+{
+    match head {
+        Head::Data(_) => ground::all_cells(m),
+        _ => ground::all_are(m, 0),
+    }
+}
+
+#[tactic(auto, unfolding(crate::specs::Packet::head_at))]
+fn head_at(s: &[u8]) -> Result<Head, Refusal>
     requires { length s.now ≡ 32 }
     ensures { result ≡ head_at s.now }
 {
-    head_of(s[5], number_at(s, 8), number_at(s, 12))
+    Head::try_from(Fields {
+        kind: s[5],
+        first: number_at(s, 8),
+        second: number_at(s, 12),
+    })
 }
 
-// Whether a head was read and the message is as its line says.
-fn carries_message(head: ReadHead, m: &[u8]) -> bool
-    requires { length m.now ≡ 16 }
-    ensures { result ≡ carries head m.now }
-{
-    match head {
-        ReadHead::Refused(_) => false,
-        ReadHead::Is(h) => message_fits(h, m),
-    }
-}
-
+#[tactic(auto, using(crate::proofs::Reading::message_copied))]
 fn message_at(s: &[u8]) -> [u8; 16]
     requires { length s.now ≡ 32 }
     ensures { result ≡ drop 16 s.now }
@@ -132,77 +105,58 @@ fn message_at(s: &[u8]) -> [u8; 16]
     m
 }
 
-fn refused_read(n: u8) -> ReadPacket
-    ensures { result ≡ refused n }
-{
-    ReadPacket {
-        head: ReadHead::Refused(n),
-        message: [0; 16],
-    }
-}
-
 // The head alone, for who has no use for the message: all of the packet is looked at, and nothing is copied.
-pub fn read_head(bytes: &[u8]) -> ReadHead
-    ensures { result ≡ (packet_read bytes.now).head }
+#[inline]
+#[tactic(auto, using(crate::proofs::Reading::reads))]
+pub fn read_head(bytes: &[u8]) -> Result<Head, Refusal>
+    ensures { result ≡ head_read bytes.now }
 {
     if bytes.len() != 32 {
-        return ReadHead::Refused(12);
+        return Err(Refusal::WrongLength);
     }
-    let n = frame_refusal(bytes, b'L', 1);
-    if n != 0 {
-        return ReadHead::Refused(n);
-    }
-    let head = head_at(bytes);
-    if carries_message(head, &bytes[16..]) {
-        head
+    check_frame(bytes, b'L', 1)?;
+    let head = head_at(bytes)?;
+    if message_fits(head, &bytes[16..]) {
+        Ok(head)
     } else {
-        ReadHead::Refused(15)
+        Err(Refusal::WrongField)
     }
 }
 
-pub fn read_packet(bytes: &[u8]) -> ReadPacket
+#[tactic(auto, using(crate::proofs::Reading::packet_reads))]
+pub fn read_packet(bytes: &[u8]) -> Result<Packet, Refusal>
     ensures { result ≡ packet_read bytes.now }
 {
-    let head = read_head(bytes);
+    let head = read_head(bytes)?;
+    Ok(Packet {
+        head,
+        message: message_at(bytes),
+    })
+}
+
+fn has_numbers(head: Head) -> bool
+    ensures { result ≡ numbered head }
+{
     match head {
-        ReadHead::Refused(n) => refused_read(n),
-        ReadHead::Is(h) => ReadPacket {
-            head: ReadHead::Is(h),
-            message: message_at(bytes),
-        },
+        Head::NeedI(j) => j != J(0),
+        Head::Offer(j, i) => (j != J(0)) & (i != I(0)),
+        Head::Data(i) | Head::Ok(i) | Head::Lost(i) | Head::Done(i) => i != I(0),
     }
 }
 
-fn has_numbers(h: Head) -> bool
-    ensures { result ≡ numbered h }
+#[tactic(auto, unfolding(crate::specs::Packet::fits))]
+fn packet_fits(p: &Packet) -> bool
+    ensures { result ≡ fits p.now }
 {
-    match h {
-        Head::NeedI(j) => j.0 != 0,
-        Head::Offer(j, i) => (j.0 != 0) & (i.0 != 0),
-        Head::Data(i) => i.0 != 0,
-        Head::Ok(i) => i.0 != 0,
-        Head::Lost(i) => i.0 != 0,
-        Head::Done(i) => i.0 != 0,
-    }
-}
-
-fn packet_fits(p: Packet) -> bool
-    ensures { result ≡ fits p }
-{
-    let h = p.head;
-    let m = p.message;
-    if has_numbers(h) {
-        message_fits(h, &m)
-    } else {
-        false
-    }
+    has_numbers(p.head) && message_fits(p.head, &p.message)
 }
 
 // Bytes 0 to 15 of a packet.
-fn head_bytes(h: Head) -> [u8; 16]
-    ensures { result ≡ frame 0x4C 1 (kind_of h) ++ (bytes_of 4 (first_of h) ++ bytes_of 4 (second_of h)) }
+#[tactic(auto, using(crate::proofs::Writing::head_bytes_are))]
+fn head_bytes(head: Head) -> [u8; 16]
+    ensures { result ≡ frame 0x4C 1 (kind_of head) ++ (bytes_of 4 (first_of head) ++ bytes_of 4 (second_of head)) }
 {
-    let f = fields_of(h);
+    let f = Fields::from(head);
     let a = big_endian(f.first);
     let b = big_endian(f.second);
     [
@@ -210,27 +164,25 @@ fn head_bytes(h: Head) -> [u8; 16]
     ]
 }
 
-fn put_packet(out: &mut [u8], p: Packet)
+#[tactic(auto, using(crate::proofs::Writing::packet_put))]
+fn put_packet(out: &mut [u8], p: &Packet)
     requires { length out.old ≡ 32 }
-    ensures { out.new ≡ packet_bytes p }
+    ensures { out.new ≡ packet_bytes p.now }
 {
-    let h = p.head;
-    let m = p.message;
-    let head = head_bytes(h);
-    out[..16].copy_from_slice(&head);
-    out[16..].copy_from_slice(&m);
+    out[..16].copy_from_slice(&head_bytes(p.head));
+    out[16..].copy_from_slice(&p.message);
 }
 
-pub fn write_packet(out: &mut [u8], p: Packet) -> u8
-    ensures { (result ≡ write_refusal (length out.old) p) × (out.new ≡ packet_written out.old p) }
+#[tactic(auto, using(crate::proofs::Writing::writes))]
+pub fn write_packet(out: &mut [u8], p: Packet) -> Result<(), Refusal>
+    ensures { (result ≡ refused_by (write_refusal (length out.old) p)) × (out.new ≡ packet_written out.old p) }
 {
     if out.len() != 32 {
-        return 12;
+        return Err(Refusal::WrongLength);
     }
-    if packet_fits(p) {
-        put_packet(out, p);
-        0
-    } else {
-        15
+    if !packet_fits(&p) {
+        return Err(Refusal::WrongField);
     }
+    put_packet(out, &p);
+    Ok(())
 }

@@ -3,13 +3,10 @@ use Rattle.bench.proofs.StepEntry.{lined_so, step_unknown, step_lined}
 use Rattle.bench.proofs.step.Goals as goal
 
 pub lined_step-requires : goal.lined_step-requires
-lined_step-requires c =
-    search lined_so
+lined_step-requires c = search lined_so
 
-pub returns-in-Nothing : goal.returns-in-Nothing
-returns-in-Nothing c =
-    search step_unknown
+pub returns-in-None : goal.returns-in-None
+returns-in-None c = search step_unknown
 
-pub returns-in-Line : goal.returns-in-Line
-returns-in-Line c =
-    search step_lined
+pub returns-in-Some : goal.returns-in-Some
+returns-in-Some c = search step_lined

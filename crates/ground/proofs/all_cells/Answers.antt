@@ -1,35 +1,12 @@
--- `ground::all_cells` meets its contract. The invariant: what was seen and what is left decide together as the whole does.
-use borrow.Author.Rules.{rules}
-use Rattle.ground.specs.Cell.{cells}
-use Rattle.ground.proofs.Every.{scan_on, scan_end}
+-- `ground::all_cells` meets its contract: the closure joins what was seen and the test of the next byte.
+use Rattle.std.proofs.Common.{rules, tests}
+use Rattle.std.proofs.lemmas.Iterator.{YieldsList-from_slice}
+use Rattle.std.proofs.lemmas.Iterator.Consumers.{fold_from_yields_List}
+use Rattle.ground.specs.Cell.{cell, cells}
+use Rattle.ground.proofs.Every.{folded}
 use Rattle.ground.proofs.all_cells.Goals as goal
-
-pub loop-i-init : goal.loop-i-init
-unfolding cells
-loop-i-init c =
-    search rules
-
-pub bounds-s-i : goal.bounds-s-i
-unfolding cells
-bounds-s-i c =
-    search rules
-
-pub overflow_add-i : goal.overflow_add-i
-unfolding cells
-overflow_add-i c =
-    search rules
-
-pub loop-i-smaller : goal.loop-i-smaller
-unfolding cells
-loop-i-smaller c =
-    search rules
-
-pub loop-i-preserved : goal.loop-i-preserved
-unfolding cells
-loop-i-preserved c =
-    (search rules, search (scan_on, rules))
 
 pub returns : goal.returns
 unfolding cells
 returns c =
-    search scan_end
+    folded cell c.args.s.now (fold_from_yields_List _ _ _ _ c.fold.ensures.ran (YieldsList-from_slice c.args.s.now cc) (λ all b r q k. search (rules, tests)))

@@ -2,18 +2,14 @@
 use Rattle.bench.proofs.ControllerByModes.{controller_refused_lem, controller_unknown, controller_absent, controller_ready}
 use Rattle.bench.proofs.modes.controller_asked.Goals as goal
 
-pub returns-then-n-ne0 : goal.returns-then-n-ne0
-returns-then-n-ne0 c =
-    search controller_refused_lem
+pub returns-in-Some : goal.returns-in-Some
+returns-in-Some c = search controller_refused_lem
 
 pub returns-then-next : goal.returns-then-next
-returns-then-next c =
-    search controller_unknown
+returns-then-next c = search controller_unknown
 
 pub returns-then-no_place : goal.returns-then-no_place
-returns-then-no_place c =
-    search controller_absent
+returns-then-no_place c = search controller_absent
 
 pub controller_moves-requires-clause-controller_ready : goal.controller_moves-requires-clause-controller_ready
-controller_moves-requires-clause-controller_ready c =
-    search controller_ready
+controller_moves-requires-clause-controller_ready c = search controller_ready

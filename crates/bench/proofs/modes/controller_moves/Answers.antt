@@ -1,15 +1,9 @@
 -- `bench::modes::controller_moves` meets its contract.
-use Rattle.bench.proofs.ControllerByModes.{controller_full, controller_room, controller_done}
+use Rattle.bench.proofs.ControllerByModes.{controller_full, controller_done}
 use Rattle.bench.proofs.modes.controller_moves.Goals as goal
 
 pub returns-then-not-has_room : goal.returns-then-not-has_room
-returns-then-not-has_room c =
-    search controller_full
-
-pub send-count-requires : goal.send-count-requires
-send-count-requires c =
-    search controller_room
+returns-then-not-has_room c = search controller_full
 
 pub returns : goal.returns
-returns c =
-    search controller_done
+returns c = search controller_done

@@ -1,11 +1,7 @@
 -- `bench::runner::limit_of` meets its contract.
-use Rattle.bench.proofs.Running.{limits}
+use mathlib.Core.Path.{◌∙◌}
+use Rattle.bench.proofs.Running.{limit_is}
 use Rattle.bench.proofs.runner.limit_of.Goals as goal
 
-pub returns-then-whole-gt9999 : goal.returns-then-whole-gt9999
-returns-then-whole-gt9999 c =
-    search limits
-
-pub returns-else-whole-gt9999 : goal.returns-else-whole-gt9999
-returns-else-whole-gt9999 c =
-    search limits
+pub returns : goal.returns
+returns c = c.min.ensures ∙ limit_is _

@@ -2,10 +2,8 @@
 use Rattle.bench.proofs.RecordPlayed.{line_refused, line_played}
 use Rattle.bench.proofs.runner.play_line.Goals as goal
 
-pub returns-then-r : goal.returns-then-r
-returns-then-r c =
-    search line_played
+pub returns-in-None : goal.returns-in-None
+returns-in-None c = search line_refused
 
-pub returns-else-r : goal.returns-else-r
-returns-else-r c =
-    search line_refused
+pub returns-in-Some : goal.returns-in-Some
+returns-in-Some c = search line_played

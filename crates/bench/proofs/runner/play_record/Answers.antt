@@ -3,5 +3,4 @@ use Rattle.bench.proofs.RecordPlayed.{turned}
 use Rattle.bench.proofs.runner.play_record.Goals as goal
 
 pub returns : goal.returns
-returns c =
-    search turned
+returns c = search turned

@@ -1,8 +1,8 @@
 -- `boundary::console::put_rest` meets its contract: three parts, one after another.
-use borrow.Author.Rules.{rules}
-use Rattle.boundary.proofs.Writing.{three_parts, filled, filled_three}
+use Rattle.std.proofs.Common.{arith}
+use Rattle.boundary.proofs.Writing.{three_parts}
 use Rattle.boundary.proofs.console.put_rest.Goals as goal
 
 pub returns : goal.returns
 returns c =
-    search (three_parts, filled, filled_three, rules)
+    grind (arith, three_parts c.args.part.now 4 4 8 c.copy_from_slice.new.self c.copy_from_slice-2.new.self c.copy_from_slice-3.new.self)

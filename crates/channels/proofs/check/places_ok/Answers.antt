@@ -1,22 +1,17 @@
--- `channels::places_ok` meets its contract. The invariant: the places that are left decide as all of them do.
+-- `channels::places_ok` meets its contract.
 use native.Mathlib.Nat.{sub-zero}
 use borrow.Author.Rules.{rules}
-use borrow.Author.Tests.{not-true, not-false}
 use Rattle.channels.proofs.Scans.{place_on, place_off, place_end}
 use Rattle.channels.proofs.check.places_ok.Goals as goal
 
-pub loop-i-init : goal.loop-i-init
-loop-i-init c =
-    (search rules, rw sub-zero)
+pub loop-place-init : goal.loop-place-init
+loop-place-init c = rw sub-zero
 
 pub returns-then-not-head_goes : goal.returns-then-not-head_goes
-returns-then-not-head_goes c =
-    search (place_off, not-true)
+returns-then-not-head_goes c = search (place_off, rules)
 
-pub loop-i-preserved : goal.loop-i-preserved
-loop-i-preserved c =
-    (search rules, search (place_on, not-false))
+pub loop-place-preserved : goal.loop-place-preserved
+loop-place-preserved c = search (place_on, rules)
 
 pub returns : goal.returns
-returns c =
-    search place_end
+returns c = search (place_end, rules)

@@ -1,7 +1,6 @@
--- `ends_console::acts::takes_what_came` meets its contract.
+-- `ends_console::acts::takes_what_came` meets its contract: its turn is taken with its own numbers.
 use Rattle.ends_console.proofs.ActsDone.{takes_moved}
 use Rattle.ends_console.proofs.acts.takes_what_came.Goals as goal
 
 pub returns : goal.returns
-returns c =
-    search takes_moved
+returns c = search takes_moved

@@ -1,23 +1,16 @@
--- `ends_controller::decides::decides` meets its contract.
-use Rattle.ends_controller.proofs.Decisions.{decides_offer, decides_ok, decides_take, decides_down, decides_back}
+-- `ends_controller::decides::decides` meets its contract, by what is asked.
+use borrow.Author.Rules.{rules}
+use Rattle.ends_controller.proofs.Decisions.{decisions}
 use Rattle.ends_controller.proofs.decides.decides.Goals as goal
 
 pub returns-in-SendOffer : goal.returns-in-SendOffer
-returns-in-SendOffer c =
-    search decides_offer
+returns-in-SendOffer c = search (decisions, rules)
 
 pub returns-in-SendOk : goal.returns-in-SendOk
-returns-in-SendOk c =
-    search decides_ok
-
-pub returns-in-Take : goal.returns-in-Take
-returns-in-Take c =
-    search decides_take
+returns-in-SendOk c = search (decisions, rules)
 
 pub returns-in-GoDown : goal.returns-in-GoDown
-returns-in-GoDown c =
-    search decides_down
+returns-in-GoDown c = search (decisions, rules)
 
 pub returns-in-ComeBack : goal.returns-in-ComeBack
-returns-in-ComeBack c =
-    search decides_back
+returns-in-ComeBack c = search (decisions, rules)

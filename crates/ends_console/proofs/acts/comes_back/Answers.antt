@@ -1,7 +1,0 @@
--- `ends_console::acts::comes_back` meets its contract.
-use Rattle.ends_console.proofs.ActsDone.{comes_back}
-use Rattle.ends_console.proofs.acts.comes_back.Goals as goal
-
-pub returns : goal.returns
-returns c =
-    search comes_back

@@ -174,11 +174,20 @@ head_of() {
     awk -v path="$1" 'NR == FNR { if ($1 == path) of[$2 " " $3]; next } ($1 " " $2) in of' "$dir/public" "$dir/heads"
 }
 
-# lemma_of FUNCTION: the statement of the lemma that its row says it is determined by.
+# lemma_of FUNCTION: the statement of the lemma that its row says it is determined by; it stands in no module, or in one that asks for types and
+# what each type has, and for nothing else.
 lemma_of() {
     cell=$(row_of "$1" | awk -F ' [|] ' '{ print $4 }' | tr -d '`')
     name=${cell#*/}
-    cat "crates/${cell%%/*}/proofs/${name%%.*}.antt" 2> /dev/null | grep "^ *pub ${name#*.} :"
+    cat "crates/${cell%%/*}/proofs/${name%%.*}.antt" 2> /dev/null | awk -v head="pub ${name#*.} :" '
+        /^[^ -]/ { asked = "" }
+        /^module / {
+            asked = $0; sub(/^module _/, "", asked); sub(/ where$/, "", asked)
+            gsub(/ \(([A-Z]+ )+: (RattleType|Laws [A-Z]|IsCopy [A-Z]|Ghosts [A-Z]\.Denot|Dict)\)/, "", asked)
+        }
+        /^  +module / { asked = asked $0 }
+        asked == "" { text = $0; sub(/^ */, "", text); if (index(text, head) == 1) print }
+    '
 }
 
 # over FUNCTION READS: its lemma's statement stands over that function's own promise, by the name under which the lemma's file has its reading.
@@ -291,8 +300,30 @@ at_hand() {
     done
 }
 
+# received TYPE NAME: the crates that call that method: the word before the dot is a parameter or a variable of the type in that file, or the
+# name of a public field of it.
+received() {
+    {
+        sed -nE "s/^[^ ]+ [^ ]+ +pub ([a-z_]+): $1[,<].*/\1/p" "$dir/code" | sort -u | sed 's/^/* /'
+        awk -v type="$1" '{
+            text = $0; while (match(text, "[a-z_]+: (&(mut )?)?" type "[^A-Za-z0-9_:]")) {
+                word = substr(text, RSTART, RLENGTH); sub(/:.*/, "", word); print $2, word; text = substr(text, RSTART + RLENGTH - 1)
+            }
+        }' "$dir/code"
+    } | sort -u > "$dir/receivers"
+    awk -v call="$2" '
+        FNR == NR { of[$1 " " $2]; next }
+        {
+            text = $0; while (match(text, "[a-z_]+\\." call "\\(")) {
+                word = substr(text, RSTART, RLENGTH); sub(/\..*/, "", word); text = substr(text, RSTART + RLENGTH)
+                if ((("* " word) in of) || (($2 " " word) in of)) print $1
+            }
+        }
+    ' "$dir/receivers" "$dir/others"
+}
+
 # callers FUNCTION: the other crates that call it: by its path; a free one by that of its module, or by its name where they use it; one of a
-# type behind the type's name, where that is at hand, as that of a number is everywhere; one with a self behind a dot, whatever is before it.
+# type behind the type's name, where that is at hand, as that of a number is everywhere; one with a self behind a dot and what has its type.
 callers() {
     crate=${1%%::*}
     path=${1%::*}
@@ -319,7 +350,7 @@ callers() {
                 done
                 ;;
         esac
-        [ "$what" != self ] || grep -E "\.$name\(|^[^ ]+ [^ ]+ +\.$name\(" "$dir/others" | cut -d ' ' -f 1
+        [ "$what" != self ] || received "$module" "$name"
     } | sort -u | paste -sd, | sed 's/,/, /g'
 }
 

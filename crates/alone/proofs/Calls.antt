@@ -1,4 +1,4 @@
--- Every call of an end run alone is refused before the rules, or it is an act of a well-formed end: the one that
+-- Every call of an end run alone is refused before the rules, with a number of which R holds, or it is an act of a well-formed end: the one that
 -- its letter asks, with the packet that was read. So a call is refused, or it is what the rules ask of that end on any bench that has the packet in.
 use Prim.Native.Nat.{ℕ}
 use mathlib.Core.Path.{◌≡◌, refl, sym, ap, ◌∙◌}
@@ -70,84 +70,98 @@ ControllerActOf p ControllerAsk.to_come_back a = a ≡ rules.ControllerAct.come_
 
 -- ## By act
 
-module _ (c : Console) (m packet reply : List ℕ) (Q : ConsoleAlone → Type 0) (refuses : (n : ℕ) → Q (console_refused n c reply)) where
-  abbrev ConsoleDoes : ConsoleAsk → Type 0
-  ConsoleDoes k = (a : rules.ConsoleAct (List ℕ)) → ConsoleActOf m packet k a → console_ok c ≡ true → Q (console_alone_acts c reply a)
+module _ (R : ℕ → Type 0) (one : R 1) (two : R 2) (twelve : R 12) (fifteen : R 15) where
+  -- a packet or head that was read, or that is refused by such a number
+  abbrev pub HeadIs : {A : Type 0} → Result A Refusal → Type 0
+  HeadIs (Err r) = R (number_of r)
+  HeadIs (Ok h) = Unit {0}
 
-  console_lent_lem : (x : ConsoleAlone) → Q x → Q (console_lent c reply x)
-  unfolding lent chosen
-  console_lent_lem x h = by_test (eqb (length reply) 32) (λ t. rw t h) (λ f. rw f (refuses 12))
+  module _ (c : Console) (m packet reply : List ℕ) (Q : ConsoleAlone → Type 0) (refuses : (n : ℕ) → R n → Q (console_refused n c reply)) (good : HeadIs (head_read packet)) where
+    abbrev ConsoleDoes : ConsoleAsk → Type 0
+    ConsoleDoes k = (a : rules.ConsoleAct (List ℕ)) → ConsoleActOf m packet k a → console_ok c ≡ true → Q (console_alone_acts c reply a)
 
-  console_came_lem : console_ok c ≡ true → ConsoleDoes ConsoleAsk.to_take → (f : Option ToConsole) → console_heard packet ≡ for_console f → Q (console_alone_takes c reply f)
-  console_came_lem ok acts None q = refuses 15
-  console_came_lem ok acts (Some t) q = acts (rules.ConsoleAct.take (maybe.some (to_console t))) (to_console t, (q, refl)) ok
+    console_lent_lem : (x : ConsoleAlone) → Q x → Q (console_lent c reply x)
+    unfolding lent chosen
+    console_lent_lem x h = by_test (eqb (length reply) 32) (λ t. rw t h) (λ f. rw f (refuses 12 twelve))
 
-  console_hears_lem : console_ok c ≡ true → ConsoleDoes ConsoleAsk.to_take → (h : Result Head Refusal) → head_read packet ≡ h → Q (console_hears c reply h)
-  console_hears_lem ok acts (Err r) e = refuses (number_of r)
-  console_hears_lem ok acts (Ok h) e =
-      console_came_lem ok acts (head_for_console h) (ap (λ (z : Result Head Refusal). for_console (read_for_console z)) e)
+    console_came_lem : console_ok c ≡ true → ConsoleDoes ConsoleAsk.to_take → (f : Option ToConsole) → console_heard packet ≡ for_console f → Q (console_alone_takes c reply f)
+    console_came_lem ok acts None q = refuses 15 fifteen
+    console_came_lem ok acts (Some t) q = acts (rules.ConsoleAct.take (maybe.some (to_console t))) (to_console t, (q, refl)) ok
 
-  console_asked_lem : console_ok c ≡ true → (k : ConsoleAsk) → ConsoleDoes k → Q (console_asked c reply m packet k)
-  console_asked_lem ok letters.to_put acts = acts (rules.put m) refl ok
-  console_asked_lem ok letters.to_send_need_i acts = console_lent_lem _ (acts rules.send_need_i refl ok)
-  console_asked_lem ok letters.to_send_data acts = console_lent_lem _ (acts rules.send_data refl ok)
-  console_asked_lem ok ConsoleAsk.to_take acts = console_lent_lem _ (console_hears_lem ok acts (head_read packet) refl)
-  console_asked_lem ok ConsoleAsk.to_go_down acts = acts rules.ConsoleAct.go_down refl ok
-  console_asked_lem ok ConsoleAsk.to_come_back acts = acts rules.ConsoleAct.come_back refl ok
-  console_asked_lem ok letters.to_tell_ack acts = acts rules.tell_ack refl ok
+    console_hears_lem : console_ok c ≡ true → ConsoleDoes ConsoleAsk.to_take → (h : Result Head Refusal) → head_read packet ≡ h → HeadIs h → Q (console_hears c reply h)
+    console_hears_lem ok acts (Err r) e g = refuses (number_of r) g
+    console_hears_lem ok acts (Ok h) e g =
+        console_came_lem ok acts (head_for_console h) (ap (λ (z : Result Head Refusal). for_console (read_for_console z)) e)
 
-  pub console_by_act : (byte : ℕ) → ((l : Letter) (k : ConsoleAsk) → letter byte ≡ maybe.some l → (line l).asks ≡ the_console k → ConsoleDoes k) → Q (console_alone c byte m packet reply)
-  unfolding console_alone chosen
-  console_by_act byte acts = by_letter (letter byte) refl
-    where
-      by_asks : (l : Letter) → letter byte ≡ maybe.some l → (a : Asks) → (line l).asks ≡ a → Q (console_asks c reply m packet a)
-      by_asks l e (the_console k) f =
-          by_test (console_ok c) (λ y. rw y (console_asked_lem y k (acts l k e f))) (λ z. rw z (refuses 2))
-      by_asks l e (the_controller k) f = refuses 1
-      by_asks l e neither_end f = refuses 1
+    console_asked_lem : console_ok c ≡ true → (k : ConsoleAsk) → ConsoleDoes k → Q (console_asked c reply m packet k)
+    console_asked_lem ok letters.to_put acts = acts (rules.put m) refl ok
+    console_asked_lem ok letters.to_send_need_i acts = console_lent_lem _ (acts rules.send_need_i refl ok)
+    console_asked_lem ok letters.to_send_data acts = console_lent_lem _ (acts rules.send_data refl ok)
+    console_asked_lem ok ConsoleAsk.to_take acts = console_lent_lem _ (console_hears_lem ok acts (head_read packet) refl good)
+    console_asked_lem ok ConsoleAsk.to_go_down acts = acts rules.ConsoleAct.go_down refl ok
+    console_asked_lem ok ConsoleAsk.to_come_back acts = acts rules.ConsoleAct.come_back refl ok
+    console_asked_lem ok letters.to_tell_ack acts = acts rules.tell_ack refl ok
 
-      by_letter : (o : maybe.Option Letter) → letter byte ≡ o → Q (console_letter c reply m packet o)
-      by_letter maybe.none e = refuses 1
-      by_letter (maybe.some l) e = by_asks l e (line l).asks refl
+    pub console_by_act : (byte : ℕ) → ((l : Letter) (k : ConsoleAsk) → letter byte ≡ maybe.some l → (line l).asks ≡ the_console k → ConsoleDoes k) → Q (console_alone c byte m packet reply)
+    unfolding console_alone chosen
+    console_by_act byte acts = by_letter (letter byte) refl
+      where
+        by_asks : (l : Letter) → letter byte ≡ maybe.some l → (a : Asks) → (line l).asks ≡ a → Q (console_asks c reply m packet a)
+        by_asks l e (the_console k) f =
+            by_test (console_ok c) (λ y. rw y (console_asked_lem y k (acts l k e f))) (λ z. rw z (refuses 2 two))
+        by_asks l e (the_controller k) f = refuses 1 one
+        by_asks l e neither_end f = refuses 1 one
 
-module _ (c : Controller) (packet reply : List ℕ) (Q : ControllerAlone → Type 0) (refuses : (n : ℕ) → Q (controller_refused n c reply)) where
-  abbrev ControllerDoes : ControllerAsk → Type 0
-  ControllerDoes k = (a : rules.ControllerAct (List ℕ)) → ControllerActOf packet k a → controller_ok c ≡ true → Q (controller_alone_acts c reply a)
+        by_letter : (o : maybe.Option Letter) → letter byte ≡ o → Q (console_letter c reply m packet o)
+        by_letter maybe.none e = refuses 1 one
+        by_letter (maybe.some l) e = by_asks l e (line l).asks refl
 
-  controller_lent_lem : (x : ControllerAlone) → Q x → Q (controller_lent c reply x)
-  unfolding lent chosen
-  controller_lent_lem x h = by_test (eqb (length reply) 32) (λ t. rw t h) (λ f. rw f (refuses 12))
+  module _ (c : Controller) (packet reply : List ℕ) (Q : ControllerAlone → Type 0) (refuses : (n : ℕ) → R n → Q (controller_refused n c reply)) (good : HeadIs (packet_read packet)) where
+    abbrev ControllerDoes : ControllerAsk → Type 0
+    ControllerDoes k = (a : rules.ControllerAct (List ℕ)) → ControllerActOf packet k a → controller_ok c ≡ true → Q (controller_alone_acts c reply a)
 
-  controller_came_lem : controller_ok c ≡ true → ControllerDoes ControllerAsk.to_take → (m : List ℕ) (f : Option ToController) → controller_heard_as packet ≡ maybe.map (in_packet (λ _. m)) (for_controller f) → Q (controller_alone_takes c reply m f)
-  controller_came_lem ok acts m None q = refuses 15
-  controller_came_lem ok acts m (Some t) q =
-      let came = in_packet (λ _. m) (to_controller t) in
-      acts (rules.ControllerAct.take (maybe.some came)) (came, (q, refl)) ok
+    controller_lent_lem : (x : ControllerAlone) → Q x → Q (controller_lent c reply x)
+    unfolding lent chosen
+    controller_lent_lem x h = by_test (eqb (length reply) 32) (λ t. rw t h) (λ f. rw f (refuses 12 twelve))
 
-  controller_hears_lem : controller_ok c ≡ true → ControllerDoes ControllerAsk.to_take → (p : Result Packet Refusal) → packet_read packet ≡ p → Q (controller_hears c reply p)
-  controller_hears_lem ok acts (Err r) e = refuses (number_of r)
-  controller_hears_lem ok acts (Ok p) e = controller_came_lem ok acts p.message (head_for_controller p.head) (ap packet_heard e)
+    controller_came_lem : controller_ok c ≡ true → ControllerDoes ControllerAsk.to_take → (m : List ℕ) (f : Option ToController) → controller_heard_as packet ≡ maybe.map (in_packet (λ _. m)) (for_controller f) → Q (controller_alone_takes c reply m f)
+    controller_came_lem ok acts m None q = refuses 15 fifteen
+    controller_came_lem ok acts m (Some t) q =
+        let came = in_packet (λ _. m) (to_controller t) in
+        acts (rules.ControllerAct.take (maybe.some came)) (came, (q, refl)) ok
 
-  controller_asked_lem : controller_ok c ≡ true → (k : ControllerAsk) → ControllerDoes k → Q (controller_asked c reply packet k)
-  controller_asked_lem ok letters.to_send_offer acts = controller_lent_lem _ (acts rules.send_offer refl ok)
-  controller_asked_lem ok letters.to_send_ok acts = controller_lent_lem _ (acts rules.send_ok refl ok)
-  controller_asked_lem ok ControllerAsk.to_take acts = controller_lent_lem _ (controller_hears_lem ok acts (packet_read packet) refl)
-  controller_asked_lem ok ControllerAsk.to_go_down acts = acts rules.ControllerAct.go_down refl ok
-  controller_asked_lem ok ControllerAsk.to_come_back acts = acts rules.ControllerAct.come_back refl ok
+    controller_hears_lem : controller_ok c ≡ true → ControllerDoes ControllerAsk.to_take → (p : Result Packet Refusal) → packet_read packet ≡ p → HeadIs p → Q (controller_hears c reply p)
+    controller_hears_lem ok acts (Err r) e g = refuses (number_of r) g
+    controller_hears_lem ok acts (Ok p) e g = controller_came_lem ok acts p.message (head_for_controller p.head) (ap packet_heard e)
 
-  pub controller_by_act : (byte : ℕ) → ((l : Letter) (k : ControllerAsk) → letter byte ≡ maybe.some l → (line l).asks ≡ the_controller k → ControllerDoes k) → Q (controller_alone c byte packet reply)
-  unfolding controller_alone chosen
-  controller_by_act byte acts = by_letter (letter byte) refl
-    where
-      by_asks : (l : Letter) → letter byte ≡ maybe.some l → (a : Asks) → (line l).asks ≡ a → Q (controller_asks c reply packet a)
-      by_asks l e (the_console k) f = refuses 1
-      by_asks l e (the_controller k) f =
-          by_test (controller_ok c) (λ y. rw y (controller_asked_lem y k (acts l k e f))) (λ z. rw z (refuses 2))
-      by_asks l e neither_end f = refuses 1
+    controller_asked_lem : controller_ok c ≡ true → (k : ControllerAsk) → ControllerDoes k → Q (controller_asked c reply packet k)
+    controller_asked_lem ok letters.to_send_offer acts = controller_lent_lem _ (acts rules.send_offer refl ok)
+    controller_asked_lem ok letters.to_send_ok acts = controller_lent_lem _ (acts rules.send_ok refl ok)
+    controller_asked_lem ok ControllerAsk.to_take acts = controller_lent_lem _ (controller_hears_lem ok acts (packet_read packet) refl good)
+    controller_asked_lem ok ControllerAsk.to_go_down acts = acts rules.ControllerAct.go_down refl ok
+    controller_asked_lem ok ControllerAsk.to_come_back acts = acts rules.ControllerAct.come_back refl ok
 
-      by_letter : (o : maybe.Option Letter) → letter byte ≡ o → Q (controller_letter c reply packet o)
-      by_letter maybe.none e = refuses 1
-      by_letter (maybe.some l) e = by_asks l e (line l).asks refl
+    pub controller_by_act : (byte : ℕ) → ((l : Letter) (k : ControllerAsk) → letter byte ≡ maybe.some l → (line l).asks ≡ the_controller k → ControllerDoes k) → Q (controller_alone c byte packet reply)
+    unfolding controller_alone chosen
+    controller_by_act byte acts = by_letter (letter byte) refl
+      where
+        by_asks : (l : Letter) → letter byte ≡ maybe.some l → (a : Asks) → (line l).asks ≡ a → Q (controller_asks c reply packet a)
+        by_asks l e (the_console k) f = refuses 1 one
+        by_asks l e (the_controller k) f =
+            by_test (controller_ok c) (λ y. rw y (controller_asked_lem y k (acts l k e f))) (λ z. rw z (refuses 2 two))
+        by_asks l e neither_end f = refuses 1 one
+
+        by_letter : (o : maybe.Option Letter) → letter byte ≡ o → Q (controller_letter c reply packet o)
+        by_letter maybe.none e = refuses 1 one
+        by_letter (maybe.some l) e = by_asks l e (line l).asks refl
+
+-- of any number
+abbrev pub Whatever : ℕ → Type 0
+Whatever n = Unit {0}
+
+pub any_head : {A : Type 0} (h : Result A Refusal) → HeadIs Whatever tt tt tt tt h
+any_head (Err r) = tt
+any_head (Ok h) = tt
 
 -- ## What the rules ask on a bench. One letter of each end takes a packet
 
@@ -226,7 +240,7 @@ module _ {S : Type 0} (b : Bench S (List ℕ)) (c : Console) (ok : console_ok c 
   pub console_call : (byte : ℕ) → (letter byte ≡ maybe.some letters.s_take → ConsoleFinds) → ConsoleCall byte (console_alone c byte m p y)
   unfolding console_alone_acts
   console_call byte h =
-      console_by_act c m p y (ConsoleCall byte) (λ n. inl (n, refl)) byte
+      console_by_act Whatever tt tt tt tt c m p y (ConsoleCall byte) (λ n u. inl (n, refl)) (any_head (head_read p)) byte
       (λ l k e f a g o.
       let x = console_place l k a f (λ s. h (e ∙ ap maybe.some s)) g in
       inr (l, (e, (x.0, (a, (x.1, refl))))))
@@ -255,7 +269,7 @@ module _ {S : Type 0} (b : Bench S (List ℕ)) (c : Controller) (ok : controller
   pub controller_call : (byte : ℕ) → (letter byte ≡ maybe.some letters.r_take → ControllerFinds) → ControllerCall byte (controller_alone c byte p y)
   unfolding controller_alone_acts
   controller_call byte h =
-      controller_by_act c p y (ControllerCall byte) (λ n. inl (n, refl)) byte
+      controller_by_act Whatever tt tt tt tt c p y (ControllerCall byte) (λ n u. inl (n, refl)) (any_head (packet_read p)) byte
       (λ l k e f a g o.
       let x = controller_place l k a f (λ s. h (e ∙ ap maybe.some s)) g in
       inr (l, (e, (x.0, (a, (x.1, refl))))))

@@ -7,6 +7,7 @@ pub mod ControllerOutcome
 pub mod ControllerWritable
 pub mod Determined
 pub mod Letters
+pub mod Numbered
 pub mod PowerLoss
 pub mod Refusals
 pub mod Refusing

@@ -1,6 +1,6 @@
 -- A refusal of an end run alone leaves the end and the reply buffer, sends nothing and delivers nothing; for every input that the types allow.
 use Prim.Native.Nat.{ℕ}
-use mathlib.Core.Path.{◌≡◌, refl, sym, ap, ◌∙◌}
+use mathlib.Core.Path.{◌≡◌, sym, ap, ◌∙◌}
 use mathlib.Core.Bool.{true, false, not}
 use mathlib.Core.Option as maybe
 use mathlib.Core.List.{List}
@@ -13,6 +13,7 @@ use Rattle.ground.proofs.Promise.{RefusalLeaves}
 use Rattle.rules.specs.Supply.{numbering, Numbers}
 use Rattle.rules.specs.Ends as rules
 use Rattle.rules.specs.Reading.{Use, use_of, said, ack_after, acted_read, console_read_step}
+use Rattle.wire.specs.Packet.{head_read, packet_read}
 use Rattle.ends_console.proofs.ShownReport.{refused_below}
 use Rattle.rules.proofs.Ends.{console_refused_same, controller_refused_same}
 use Rattle.ends_console.specs.Fields.{console_ok}
@@ -23,27 +24,18 @@ use Rattle.ends.specs.AsRules.{report_back, delivered}
 use Rattle.ends.specs.Packets.{to_console_packet}
 use Rattle.ends_console.proofs.FieldsAsRules as console
 use Rattle.ends_controller.proofs.FieldsAsRules as controller
-use Rattle.ends.proofs.Reports.{IsRefused, refused_in_rules}
-use Rattle.ends.specs.declared.Report.{Report}
+use Rattle.ends.proofs.Reports.{IsRefused, its_refusal, refused_in_rules}
 use Rattle.ends.specs.declared.Report.TheVariants as report
 use Rattle.ends_console.specs.declared.fields.Console.{Console}
 use Rattle.ends_controller.specs.declared.fields.Controller.{Controller}
 use Rattle.alone.specs.Alone.{replied}
 use Rattle.alone.specs.ConsoleAlone.{ConsoleAlone, console_refused, console_told, console_alone_acts, console_alone}
 use Rattle.alone.specs.ControllerAlone.{ControllerAlone, controller_refused, controller_told, controller_alone_acts, controller_alone}
-use Rattle.alone.proofs.Calls.{console_by_act, controller_by_act}
+use Rattle.alone.proofs.Calls.{Whatever, any_head, console_by_act, controller_by_act}
 use Rattle.alone.proofs.console.step.Kinds as console-step-kinds
 use Rattle.alone.proofs.console.step.Reads as console-step
 use Rattle.alone.proofs.controller.step.Kinds as controller-step-kinds
 use Rattle.alone.proofs.controller.step.Reads as controller-step
-
--- the refusal that is reported
-its_refusal : (r : Report) → IsRefused r → (q : Refusal) × (r ≡ report.Refused q)
-its_refusal report.Nothing h = absurd h
-its_refusal report.Delivered h = absurd h
-its_refusal report.Ok h = absurd h
-its_refusal report.Lost h = absurd h
-its_refusal (report.Refused q) h = (q, refl)
 
 -- ## The console
 
@@ -71,8 +63,8 @@ module _ (c : Console) (long : length c.message ≡ 16) (m reply : List ℕ) whe
 
   pub console_refusal_leaves : (l : ℕ) (packet : List ℕ) (q : Refusal) → (console_alone c l m packet reply).outcome.report ≡ report.Refused q → console_alone c l m packet reply ≡ console_refused (number_of q) c reply
   console_refusal_leaves l packet =
-      console_by_act c m packet reply (λ d. (q : Refusal) → d.outcome.report ≡ report.Refused q → d ≡ console_refused (number_of q) c reply)
-      (λ n q e. console_told_as n q cc) l (λ x k e f a g ok. console_acted_lem a ok)
+      console_by_act Whatever tt tt tt tt c m packet reply (λ d. (q : Refusal) → d.outcome.report ≡ report.Refused q → d ≡ console_refused (number_of q) c reply)
+      (λ n u q e. console_told_as n q cc) (any_head (head_read packet)) l (λ x k e f a g ok. console_acted_lem a ok)
 
 -- ## The controller
 
@@ -98,8 +90,8 @@ module _ (c : Controller) (reply : List ℕ) where
 
   pub controller_refusal_leaves : (l : ℕ) (packet : List ℕ) (q : Refusal) → (controller_alone c l packet reply).outcome.report ≡ report.Refused q → controller_alone c l packet reply ≡ controller_refused (number_of q) c reply
   controller_refusal_leaves l packet =
-      controller_by_act c packet reply (λ d. (q : Refusal) → d.outcome.report ≡ report.Refused q → d ≡ controller_refused (number_of q) c reply)
-      (λ n q e. controller_told_as n q cc) l (λ x k e f a g ok. controller_acted_lem a ok)
+      controller_by_act Whatever tt tt tt tt c packet reply (λ d. (q : Refusal) → d.outcome.report ≡ report.Refused q → d ≡ controller_refused (number_of q) c reply)
+      (λ n u q e. controller_told_as n q cc) (any_head (packet_read packet)) l (λ x k e f a g ok. controller_acted_lem a ok)
 
 -- ## The entries: the end and the reply buffer after a refusal are those before it
 

@@ -8,6 +8,7 @@ pub mod Echoes
 pub mod ListVectors
 pub mod Listed
 pub mod LostByModes
+pub mod Numbered
 pub mod NumbersMoved
 pub mod NumbersOffered
 pub mod Offers

@@ -54,11 +54,11 @@ use Rattle.bench.proofs.RefusedByModes.{out_held}
 use Rattle.bench.proofs.WhoIsAsked.{asked_console, asked_controller, asked_no_end}
 
 -- a number as it is handed on is the same number
-given_j : (n : maybe.Option ℕ) → console.given (next_j n) ≡ n
+pub given_j : (n : maybe.Option ℕ) → console.given (next_j n) ≡ n
 given_j maybe.none = refl
 given_j (maybe.some n) = refl
 
-given_i : (n : maybe.Option ℕ) → controller.given (next_i n) ≡ n
+pub given_i : (n : maybe.Option ℕ) → controller.given (next_i n) ≡ n
 given_i maybe.none = refl
 given_i (maybe.some n) = refl
 

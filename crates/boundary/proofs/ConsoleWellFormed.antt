@@ -39,7 +39,7 @@ use Rattle.channels.specs.Packets.{as_to_console, to_console_read}
 use Rattle.channels.specs.Table.{goes}
 use Rattle.channels.proofs.Packets.{ToConsoleReadOk, to_console_coded}
 use Rattle.alone.specs.ConsoleAlone.{ConsoleAlone, console_alone_acts, console_alone}
-use Rattle.alone.proofs.Calls.{console_heard, ConsoleActOf, console_by_act}
+use Rattle.alone.proofs.Calls.{console_heard, ConsoleActOf, Whatever, any_head, console_by_act}
 use Rattle.boundary.specs.State.{is_refusal}
 use Rattle.boundary.proofs.BenchRefusals.{ConsoleTyped}
 use Rattle.boundary.proofs.ConsoleTrips.{Typed}
@@ -102,4 +102,4 @@ module _ (c : Console) (typed : ConsoleTyped c) (m packet reply : List ℕ) (byt
 
   pub console_left : (l : ℕ) → Leaves (console_alone c l m packet reply)
   console_left l =
-      console_by_act c m packet reply Leaves (λ k e. absurd (true≢false e)) l (λ x k e f. acts_leave k)
+      console_by_act Whatever tt tt tt tt c m packet reply Leaves (λ k u e. absurd (true≢false e)) (any_head (head_read packet)) l (λ x k e f. acts_leave k)

@@ -14,7 +14,7 @@ use Rattle.ground.specs.Choice.{chosen}
 use Rattle.ground.specs.First.{refusal}
 use Rattle.ground.specs.declared.refusals.Refusal.{Refusal}
 use Rattle.ground.proofs.Tests.{by_test}
-use Rattle.wire.specs.Packet.{head_read, with_message}
+use Rattle.wire.specs.Packet.{head_read, packet_read, with_message}
 use Rattle.wire.specs.declared.Direction.TheVariants.{ToController}
 use Rattle.wire.specs.declared.Head.{Head}
 use Rattle.wire.specs.declared.Head.TheVariants as head
@@ -35,7 +35,7 @@ use Rattle.channels.specs.Packets.{as_to_controller, to_controller_read}
 use Rattle.channels.specs.Table.{goes}
 use Rattle.channels.proofs.Packets.{ToControllerReadOk, to_controller_coded}
 use Rattle.alone.specs.ControllerAlone.{ControllerAlone, controller_alone_acts, controller_alone}
-use Rattle.alone.proofs.Calls.{packet_heard, controller_heard_as, ControllerActOf, controller_by_act}
+use Rattle.alone.proofs.Calls.{packet_heard, controller_heard_as, ControllerActOf, Whatever, any_head, controller_by_act}
 use Rattle.boundary.specs.State.{is_refusal}
 use Rattle.boundary.proofs.BenchRefusals.{ControllerTyped}
 use Rattle.boundary.proofs.ControllerTrips.{Typed}
@@ -90,4 +90,4 @@ module _ (c : Controller) (typed : ControllerTyped c) (packet reply : List ℕ) 
 
   pub controller_left : (l : ℕ) → Leaves (controller_alone c l packet reply)
   controller_left l =
-      controller_by_act c packet reply Leaves (λ k e. absurd (true≢false e)) l (λ x k e f. acts_leave k)
+      controller_by_act Whatever tt tt tt tt c packet reply Leaves (λ k u e. absurd (true≢false e)) (any_head (packet_read packet)) l (λ x k e f. acts_leave k)

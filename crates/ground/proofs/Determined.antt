@@ -9,6 +9,8 @@ use Rattle.ground.proofs.is_message.Kinds as is-message-kinds
 use Rattle.ground.proofs.is_message.Reads as is-message
 use Rattle.ground.proofs.all_are.Kinds as all-are-kinds
 use Rattle.ground.proofs.all_are.Reads as all-are
+use Rattle.ground.proofs.refusals.RefusalPartialEq.eq.Kinds as same-refusal-kinds
+use Rattle.ground.proofs.refusals.RefusalPartialEq.eq.Reads as same-refusal
 use Rattle.ground.proofs.refusals.U8FromRefusal.from.Kinds as number-kinds
 use Rattle.ground.proofs.refusals.U8FromRefusal.from.Reads as number
 
@@ -26,3 +28,6 @@ all_are_determined κs a x y s t p q = p ∙ sym q
 
 pub number_determined : Determined number-kinds.ps number-kinds.r number.Post
 number_determined κs a x y s t p q = p ∙ sym q
+
+pub same_refusal_determined : Determined same-refusal-kinds.ps same-refusal-kinds.r same-refusal.Post
+same_refusal_determined κs a x y s t p q = p ∙ sym q

@@ -1,9 +1,10 @@
 -- A refusal and its number say the same.
-use Rattle.std.proofs.Common.{ℕ, zero, suc, ◌≤◌, ◌≡◌, refl, ap, ◌∙◌, Bool, true, false, List, [], ◌∷◌, eqb, eqb-true, arith, Result, Ok, Err}
+use Rattle.std.proofs.Common.{ℕ, zero, suc, ◌≤◌, ◌≡◌, refl, sym, ap, ◌∙◌, Bool, true, false, List, [], ◌∷◌, eqb, eqb-true, arith, Result, Ok, Err}
 use Rattle.std.specs.Prelude.{IsErrAnd}
 use Rattle.std.proofs.lemmas.Result.{err_from_is_err_and}
 use Rattle.ground.specs.Choice.{chosen}
 use Rattle.ground.specs.Every.{every}
+use Rattle.ground.specs.First as order
 use Rattle.ground.specs.First.{Rule, first}
 use Rattle.ground.specs.Refusals.{number_of, refusal_of, unless_refused, refused_by, refusal_in}
 use Rattle.ground.specs.declared.refusals.Refusal.{Refusal}
@@ -63,6 +64,11 @@ first_comes_back (r ∷ rs) e =
     let rest = and_right (is_known r.0) (every (λ (q : Rule). is_known q.0) rs) e in
     by_test r.0 r.1 rs known (first_comes_back rs rest)
 
+-- what the rules refuse by is 0 or the number of a refusal
+rules_known : (rs : List Rule) → refusal_in (refused_by (order.refusal rs)) ≡ order.refusal rs
+unfolding order.refusal
+rules_known rs = first_comes_back _ refl
+
 -- what is not refused is no refusal, and is one thing
 module _ {A : Type 0} where
   pub is_other : (r : Refusal) (a : A) → ◌≡◌ {A = Result A Refusal} (Err r) (Ok a) → ⊥
@@ -79,11 +85,24 @@ pub refused_so : (n : ℕ) → (n ≡ 0 → ⊥) → refused_by n ≡ Err (refus
 refused_so zero h = absurd (h refl)
 refused_so (suc n) h = refl
 
+-- a known number is that of its refusal
+pub own_number : (n : ℕ) → refusal_in (refused_by n) ≡ n → (n ≡ 0 → ⊥) → number_of (refusal_of n) ≡ n
+own_number n known h = sym (ap refusal_in (refused_so n h)) ∙ known
+
+-- and so is the one by which rules refuse
+pub rules_number : (rs : List Rule) → (order.refusal rs ≡ 0 → ⊥) → number_of (refusal_of (order.refusal rs)) ≡ order.refusal rs
+rules_number rs h = own_number (order.refusal rs) (rules_known rs) h
+
 -- what refuses is the refusal with that number
 pub refused_as : (n : ℕ) {r : Refusal} → Err r ≡ refused_by n → (r ≡ refusal_of n) × (n ≡ 0 → ⊥)
 refused_as n {r} e =
     let h : n ≡ 0 → ⊥ = λ z. is_other r tt (e ∙ ap refused_by z) in
     (is_refusal r (refusal_of n) (e ∙ refused_so n h), h)
+
+-- and so where another value would be
+pub refused_with : {A : Type 0} (n : ℕ) (a : A) {r : Refusal} → unless_refused n a ≡ Err r → Err r ≡ refused_by n
+refused_with zero a {r} e = absurd (is_other r a (sym e))
+refused_with (suc n) a {r} e = ap Err (sym (is_refusal (refusal_of (suc n)) r e))
 
 -- what no number refuses passes
 pub passes : (n : ℕ) → refused_by n ≡ Ok tt → n ≡ 0

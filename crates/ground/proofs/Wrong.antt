@@ -4,7 +4,7 @@ use Rattle.ground.specs.Block.{is_block}
 use Rattle.ground.specs.Cell.{cell, cells, is_message, spaces}
 use Rattle.ground.specs.Every.{filled}
 use Rattle.ground.specs.Refusals.{number_of}
-use Rattle.ground.specs.declared.refusals.Refusal.TheVariants.{NoAction, WrongField}
+use Rattle.ground.specs.declared.refusals.Refusal.TheVariants.{NoAction, WrongVersion, WrongField}
 use Rattle.ground.proofs.Promise.{RulesOut, unequal}
 use Rattle.ground.proofs.is_block.Kinds as is-block-kinds
 use Rattle.ground.proofs.is_block.Reads as is-block
@@ -14,6 +14,8 @@ use Rattle.ground.proofs.is_message.Kinds as is-message-kinds
 use Rattle.ground.proofs.is_message.Reads as is-message
 use Rattle.ground.proofs.all_are.Kinds as all-are-kinds
 use Rattle.ground.proofs.all_are.Reads as all-are
+use Rattle.ground.proofs.refusals.RefusalPartialEq.eq.Kinds as same-refusal-kinds
+use Rattle.ground.proofs.refusals.RefusalPartialEq.eq.Reads as same-refusal
 use Rattle.ground.proofs.refusals.U8FromRefusal.from.Kinds as number-kinds
 use Rattle.ground.proofs.refusals.U8FromRefusal.from.Reads as number
 
@@ -57,3 +59,9 @@ counts_refusals_from_0 κs a x s e w p = unequal (sym w ∙ p ∙ ap number_of e
 -- one number for two refusals
 pub field_numbered_as_version : RulesOut number-kinds.ps number-kinds.r number.Post (λ κs a. a.0 ≡ WrongField) (λ κs a x s. x ≡ 14)
 field_numbered_as_version κs a x s e w p = unequal (sym w ∙ p ∙ ap number_of e) refl
+
+pub every_refusal_is_the_same : RulesOut same-refusal-kinds.ps same-refusal-kinds.r same-refusal.Post (λ κs a. (a.0.now ≡ WrongVersion) × (a.1.0.now ≡ WrongField)) (λ κs a x s. x ≡ true)
+every_refusal_is_the_same κs a x s e w p = let q : x ≡ false = rw (e.0, e.1) at p in true≢false (sym w ∙ q)
+
+pub no_refusal_is_the_same : RulesOut same-refusal-kinds.ps same-refusal-kinds.r same-refusal.Post (λ κs a. (a.0.now ≡ NoAction) × (a.1.0.now ≡ NoAction)) (λ κs a x s. x ≡ false)
+no_refusal_is_the_same κs a x s e w p = let q : x ≡ true = rw (e.0, e.1) at p in true≢false (sym q ∙ w)

@@ -6,7 +6,7 @@ use Rattle.ground.specs.First.{first}
 use Rattle.ground.specs.Refusals.{number_of, refused_by, refusal_in}
 use Rattle.ground.specs.declared.refusals.Refusal.{Refusal}
 use Rattle.ground.proofs.First.{none_wanting}
-use Rattle.ground.proofs.RefusalNumbers.{first_comes_back, passes}
+use Rattle.ground.proofs.RefusalNumbers.{first_comes_back, refused_with, refused_as, passes}
 use Rattle.ground.proofs.Tests.{and_left, and_right}
 use Rattle.tables.specs.declared.shown.Way.{Way}
 use Rattle.tables.specs.declared.shown.Way.TheVariants.{Out, Back}
@@ -73,6 +73,15 @@ module _ (way : Way) (place : ℕ) (out : List ℕ) (sent : ℕ) (back : List �
         back_long = is_long (length back) returned y;
         least = below way place sent returned (is_few (length out) sent x) (is_few (length back) returned y) (ltb-true place (asked way sent returned) b.0);
       }
+
+-- for every input: what is refused has the number by which it is refused, and shows nothing
+module _ (way : Way) (place : ℕ) (out : Bor (List ℕ)) (sent : ℕ) (back : Bor (List ℕ)) (returned : ℕ) where
+  pub refused_shows_none : {r : Refusal} → showing way place out sent back returned ≡ Err r → (number_of r ≡ show_refusal way place out.now sent back.now returned) × (show_refusal way place out.now sent back.now returned ≡ 0 → ⊥)
+  unfolding showing
+  refused_shows_none {r} e =
+      let n = show_refusal way place out.now sent back.now returned in
+      let q = refused_with n (part_at (asked way out back) place) e in
+      (show_refusal_number way place out.now sent back.now returned r q, (refused_as n q).1)
 
 -- the same from the call that found no refusal, of the table that was asked for
 module _ (way : Way) (place : ℕ) (out : Bor (List ℕ)) (sent : ℕ) (back : Bor (List ℕ)) (returned : ℕ) (granted : Ok tt ≡ refused_by (show_refusal way place out.now sent back.now returned)) where

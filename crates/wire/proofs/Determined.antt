@@ -37,12 +37,17 @@ use Rattle.wire.proofs.JPartialEq.eq.Kinds as same-j-kinds
 use Rattle.wire.proofs.JPartialEq.eq.Reads as same-j
 use Rattle.wire.proofs.IPartialEq.eq.Kinds as same-i-kinds
 use Rattle.wire.proofs.IPartialEq.eq.Reads as same-i
+use Rattle.wire.proofs.DirectionPartialEq.eq.Kinds as same-direction-kinds
+use Rattle.wire.proofs.DirectionPartialEq.eq.Reads as same-direction
 
 pub same_j_determined : Determined same-j-kinds.ps same-j-kinds.r same-j.Post
 same_j_determined κs a x y s t p q = p ∙ sym q
 
 pub same_i_determined : Determined same-i-kinds.ps same-i-kinds.r same-i.Post
 same_i_determined κs a x y s t p q = p ∙ sym q
+
+pub same_direction_determined : Determined same-direction-kinds.ps same-direction-kinds.r same-direction.Post
+same_direction_determined κs a x y s t p q = p ∙ sym q
 
 pub direction_of_determined : Determined direction-of-kinds.ps direction-of-kinds.r direction-of.Post
 direction_of_determined κs a x y s t p q = p ∙ sym q

@@ -1,6 +1,6 @@
 -- What the outcome of a read says of the first refusal.
 use Prim.Native.Nat.{ℕ}
-use mathlib.Core.Path.{◌≡◌, sym, ◌∙◌}
+use mathlib.Core.Path.{◌≡◌, refl, sym, ap, ◌∙◌}
 use mathlib.Core.List.{List}
 use mathlib.Core.Bool.{true, false≢true}
 use borrow.Author.Tests.{ne_eqb, eqb-true, eqb-false}
@@ -9,9 +9,9 @@ use lib.Dec.{eqb}
 use Rattle.ground.specs.Choice.{chosen}
 use Rattle.ground.proofs.Tests.{by_test}
 use Rattle.std.specs.Prelude as result
-use Rattle.ground.specs.Refusals.{refusal_of}
+use Rattle.ground.specs.Refusals.{number_of, refusal_of, refused_by, refusal_in}
 use Rattle.ground.specs.declared.refusals.Refusal.{Refusal}
-use Rattle.ground.proofs.RefusalNumbers.{is_other, is_refusal}
+use Rattle.ground.proofs.RefusalNumbers.{first_comes_back, is_other, is_refusal, own_number}
 use Rattle.wire.specs.declared.Head.{Head}
 use Rattle.wire.specs.Packet.{numbered, head_at, carries, read_refusal, head_read}
 use Rattle.wire.specs.Frame.{field}
@@ -50,11 +50,19 @@ module _ (s : List ℕ) where
   unfolding read_refusal
   unrefused_long z = (framed 32 0x4C 1 s (carries (head_at s) (drop 16 s)) z).long
 
-  pub head_refused : {r : Refusal} → head_read s ≡ result.Err r → (refusal_of (read_refusal s) ≡ r) × (read_refusal s ≡ 0 → ⊥)
+  known : refusal_in (refused_by (read_refusal s)) ≡ read_refusal s
+  unfolding read_refusal
+  known = first_comes_back _ refl
+
+  -- the refusal that a read tells has the number by which it refuses
+  pub head_refused : {r : Refusal} → head_read s ≡ result.Err r → (read_refusal s ≡ number_of r) × (read_refusal s ≡ 0 → ⊥)
   head_refused {r} e =
       by_test (eqb (read_refusal s) 0)
       (λ t.
       let z = eqb-true (read_refusal s) 0 t in
       let h : head_at s ≡ result.Err r = sym (head_read_lem z) ∙ e in
       absurd (false≢true (rw h at (carried z))))
-      (λ f. let z = eqb-false (read_refusal s) 0 f in (is_refusal (refusal_of (read_refusal s)) r (sym (refused_read z) ∙ e), z))
+      (λ f.
+      let z = eqb-false (read_refusal s) 0 f in
+      let q = is_refusal (refusal_of (read_refusal s)) r (sym (refused_read z) ∙ e) in
+      (sym (own_number (read_refusal s) known z) ∙ ap number_of q, z))

@@ -9,10 +9,11 @@ use lib.ListN.{length, get_or, drop, drop_of_length-le}
 use lib.Dec.{eqb, leb}
 use Rattle.ground.specs.Bytes.{Bytes}
 use Rattle.std.specs.Prelude.{Ok, Err}
-use Rattle.ground.specs.Refusals.{refusal_of}
+use Rattle.ground.specs.Refusals as refusals
+use Rattle.ground.specs.Refusals.{refusal_of, refused_by, refusal_in}
 use Rattle.ground.specs.declared.refusals.Refusal.{Refusal}
 use Rattle.ground.specs.declared.refusals.Refusal.TheVariants.{WrongField}
-use Rattle.ground.proofs.RefusalNumbers.{is_one, is_other, is_refusal}
+use Rattle.ground.proofs.RefusalNumbers.{first_comes_back, is_one, is_other, is_refusal, own_number}
 use Rattle.ground.specs.Choice.{chosen}
 use Rattle.ground.specs.First.{first}
 use Rattle.ground.proofs.Elements.{rest_elements}
@@ -136,13 +137,20 @@ module _ (s : List ℕ) (z : record_refusal s ≡ 0) where
   end_passes =
       by_test (eqb (length s) 16) (λ t. (new_passes (eqb-true (length s) 16 t)).0) (λ f. (old_framed (eqb-false (length s) 16 f)).fields)
 
--- a refusal is the first, and its number is not 0
-pub record_refused : (s : List ℕ) {r : Refusal} → record_read s ≡ Err r → (refusal_of (record_refusal s) ≡ r) × (record_refusal s ≡ 0 → ⊥)
+known : (s : List ℕ) → refusal_in (refused_by (record_refusal s)) ≡ record_refusal s
+unfolding record_refusal chosen
+known s = by_test (eqb (length s) 16) (λ t. rw t (first_comes_back _ refl)) (λ f. rw f (first_comes_back _ refl))
+
+-- a refusal has the number of the first, which is not 0
+pub record_refused : (s : List ℕ) {r : Refusal} → record_read s ≡ Err r → (record_refusal s ≡ refusals.number_of r) × (record_refusal s ≡ 0 → ⊥)
 unfolding record_read chosen
 record_refused s {r} e =
     by_test (eqb (record_refusal s) 0)
     (λ t. let u : record_at s ≡ Err r = rw t at e in absurd (false≢true (rw u at (end_passes s (eqb-true (record_refusal s) 0 t)))))
-    (λ f. (is_refusal (refusal_of (record_refusal s)) r (rw f at e), eqb-false (record_refusal s) 0 f))
+    (λ f.
+    let z = eqb-false (record_refusal s) 0 f in
+    let q = is_refusal (refusal_of (record_refusal s)) r (rw f at e) in
+    (sym (own_number (record_refusal s) (known s) z) ∙ ap refusals.number_of q, z))
 
 pub record_unrefused : (s : List ℕ) {r : NumberRecord} → record_read s ≡ Ok r → (record_refusal s ≡ 0) × (record_at s ≡ Ok r)
 unfolding record_read chosen

@@ -1,14 +1,15 @@
 -- Programs that the promise of `==` on numbers rules out, each at one input: a J is compared with a J, an I with an I; 0 means none.
-use mathlib.Core.Path.{◌≡◌, refl, sym, ap, ◌∙◌}
+use mathlib.Core.Path.{◌≡◌, sym, ◌∙◌}
 use mathlib.Core.Bool.{true, false, true≢false, false≢true}
 use lib.Dec.{eqb}
 use Rattle.ground.proofs.Promise.{RulesOut}
-use Rattle.wire.specs.declared.I.{I}
-use Rattle.wire.specs.declared.J.{J}
 use Rattle.wire.proofs.JPartialEq.eq.Kinds as same-j-kinds
 use Rattle.wire.proofs.JPartialEq.eq.Reads as same-j
 use Rattle.wire.proofs.IPartialEq.eq.Kinds as same-i-kinds
 use Rattle.wire.proofs.IPartialEq.eq.Reads as same-i
+use Rattle.wire.specs.declared.Direction.TheVariants.{ToController, ToConsole}
+use Rattle.wire.proofs.DirectionPartialEq.eq.Kinds as same-direction-kinds
+use Rattle.wire.proofs.DirectionPartialEq.eq.Reads as same-direction
 
 -- ## Numbers compared
 
@@ -38,3 +39,11 @@ the_largest_i_is_none κs a x s e w p = true≢false (sym w ∙ p ∙ (λ i. eqb
 
 pub i_0_is_one : RulesOut same-i-kinds.ps same-i-kinds.r same-i.Post (λ κs a. (a.0.now ≡ record { 0 = 0 }) × (a.1.0.now ≡ record { 0 = 0 })) (λ κs a x s. x ≡ false)
 i_0_is_one κs a x s e w p = false≢true (sym w ∙ p ∙ (λ i. eqb (e.0 i).0 (e.1 i).0))
+
+-- ## Directions
+
+pub every_direction_is_the_same : RulesOut same-direction-kinds.ps same-direction-kinds.r same-direction.Post (λ κs a. (a.0.now ≡ ToController) × (a.1.0.now ≡ ToConsole)) (λ κs a x s. x ≡ true)
+every_direction_is_the_same κs a x s e w p = let q : x ≡ false = rw (e.0, e.1) at p in true≢false (sym w ∙ q)
+
+pub no_direction_is_the_same : RulesOut same-direction-kinds.ps same-direction-kinds.r same-direction.Post (λ κs a. (a.0.now ≡ ToConsole) × (a.1.0.now ≡ ToConsole)) (λ κs a x s. x ≡ false)
+no_direction_is_the_same κs a x s e w p = let q : x ≡ true = rw (e.0, e.1) at p in true≢false (sym q ∙ w)

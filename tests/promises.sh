@@ -146,6 +146,8 @@ strange() {
             [ -n "$trait" ] && cat "${line%%/src/*}"/src/*.rt | grep -qE "^(pub\(crate\) )?trait $trait(: Copy)? \{\$" || printf '%s\n' "$line"
         done
     grep -HnE 'derive' crates/*/src/*.rt | grep -vE ':[0-9]+:#\[derive\((Clone|Copy|PartialEq|Eq)(, (Clone|Copy|PartialEq|Eq))*\)\]$'
+    # a type goes by the name that it is declared by, or by a `pub type` of it: by no private name, and not in angles before a call
+    grep -HnE '^type |^ +type [A-Za-z0-9]+(<[^=]*>)? = [a-z_]+::|<[A-Za-z0-9_:]+>::' crates/*/src/*.rt
     # which conversion an `into` is only its types say; `B::from` says it
     grep -HnE '\.(try_)?into\(' crates/*/src/*.rt
     sed -n 's/^- \([^ ]*\) \(.*\)/\1: \2 is public, and its type is not/p' "$dir/public"
@@ -174,19 +176,26 @@ head_of() {
     awk -v path="$1" 'NR == FNR { if ($1 == path) of[$2 " " $3]; next } ($1 " " $2) in of' "$dir/public" "$dir/heads"
 }
 
-# lemma_of FUNCTION: the statement of the lemma that its row says it is determined by; it stands in no module, or in one that asks for types and
-# what each type has, and for nothing else.
+# lemma_of FUNCTION: the statement of the lemma that its row says it is determined by. It stands in no module, or right in one that asks for
+# types and what each type has, which the library says, and for nothing else; in a file without comments over lines.
 lemma_of() {
     cell=$(row_of "$1" | awk -F ' [|] ' '{ print $4 }' | tr -d '`')
     name=${cell#*/}
-    cat "crates/${cell%%/*}/proofs/${name%%.*}.antt" 2> /dev/null | awk -v head="pub ${name#*.} :" '
-        /^[^ -]/ { asked = "" }
-        /^module / {
-            asked = $0; sub(/^module _/, "", asked); sub(/ where$/, "", asked)
-            gsub(/ \(([A-Z]+ )+: (RattleType|Laws [A-Z]|IsCopy [A-Z]|Ghosts [A-Z]\.Denot|Dict)\)/, "", asked)
+    file=crates/${cell%%/*}/proofs/${name%%.*}.antt
+    grep -qE '[{]-|^ *((abbrev|unfoldable|pub|record|data) )*(RattleType|Laws|IsCopy|Ghosts|Dict)( |$)' "$file" 2> /dev/null && return
+    cat "$file" 2> /dev/null | awk -v lemma="pub ${name#*.} :" '
+        /^[^ -]/ { inside = 0 }
+        /^(pub )?module( |$)/ { head = 1; asked = "" }
+        head {
+            asked = asked " " $0
+            if ($0 ~ /(^| )where *$/) {
+                head = 0; gsub(/ +/, " ", asked); sub(/^ module _/, "", asked); sub(/ where *$/, "", asked)
+                gsub(/ \(([A-Z]+ )+: (RattleType|Laws [A-Z]|IsCopy [A-Z]|Ghosts [A-Z]\.Denot|Dict)\)/, "", asked)
+                inside = asked == ""
+            }
+            next
         }
-        /^  +module / { asked = asked $0 }
-        asked == "" { text = $0; sub(/^ */, "", text); if (index(text, head) == 1) print }
+        index($0, lemma) == 1 || (inside && index($0, "  " lemma) == 1)
     '
 }
 
@@ -278,7 +287,7 @@ code() {
         crate=${file#crates/}
         awk -v at="${crate%%/*} $file" '
             /^ *(pub |ghost )*use / { on = 1 }
-            !on && !/^ *(ensures|requires)[ *]/ && !/^ *(ghost |#!?\[)/ { sub(/\/\/.*/, ""); if ($0 ~ /[^ ]/) print at, $0 }
+            !on && !/^ *(ensures|requires)[ *]/ && !/^ *ghost / && !/^ *#!?\[.*\] *$/ { sub(/\/\/.*/, ""); if ($0 ~ /[^ ]/) print at, $0 }
             on && /;/ { on = 0 }
         ' "$file"
     done
@@ -291,32 +300,41 @@ used() {
     done
 }
 
-# Where another's type is at hand by its own name, by a `use` of it or of the crate's `pub type`: crate, file, type with its path.
+# The `pub type`s, of another's type under its own name: crate, file, type with its path.
+renamed() {
+    sed -n 's/^\([^ ]*\) \([^ ]*\) pub type [A-Za-z0-9]* = \([a-z_:]*::[A-Za-z0-9]*\).*/\1 \2 \3/p' "$dir/code"
+}
+
+# Where another's type is at hand by its own name, by a `use` of it, of the crate's `pub type` or of another crate's: crate, file, type with
+# its path.
 at_hand() {
     awk '$3 ~ /::[A-Z][A-Za-z0-9]*$/ && $3 !~ /^crate::/' "$dir/used"
-    sed -n 's/^\([^ ]*\) \([^ ]*\) pub type [A-Za-z0-9]* = \([a-z_:]*::[A-Za-z0-9]*\).*/\1 \2 \3/p' "$dir/code" | while read -r crate file type; do
+    renamed | while read -r crate file type; do
         echo "$crate $file $type"
         awk -v crate="$crate" -v type="$type" -v named="crate::${type##*::}" '$1 == crate && $3 == named { print $1, $2, type }' "$dir/used"
+        awk -v type="$type" -v named="$crate::${type##*::}" '$3 == named { print $1, $2, type }' "$dir/used"
     done
 }
 
-# received TYPE NAME: the crates that call that method: the word before the dot is a parameter or a variable of the type in that file, or the
-# name of a public field of it.
+# received TYPE NAME: the crates that call that method, one with a ? behind it where the type of what stands before the dot is not known: it has
+# to be a word that is declared as `word: TYPE` in that file, or, behind a dot, the name of a public field of that type. So a call of another
+# type's method of the name is known too, or told.
 received() {
     {
-        sed -nE "s/^[^ ]+ [^ ]+ +pub ([a-z_]+): $1[,<].*/\1/p" "$dir/code" | sort -u | sed 's/^/* /'
+        sed -nE "s/^[^ ]+ [^ ]+ +pub ([a-z0-9_]+): $1[,<].*/.\1/p" "$dir/code"
         awk -v type="$1" '{
-            text = $0; while (match(text, "[a-z_]+: (&(mut )?)?" type "[^A-Za-z0-9_:]")) {
+            text = $0; while (match(text, "[a-z0-9_]+: (&(mut )?)?([a-z0-9_]+::)*" type "[^A-Za-z0-9_:]")) {
                 word = substr(text, RSTART, RLENGTH); sub(/:.*/, "", word); print $2, word; text = substr(text, RSTART + RLENGTH - 1)
             }
         }' "$dir/code"
     } | sort -u > "$dir/receivers"
     awk -v call="$2" '
-        FNR == NR { of[$1 " " $2]; next }
+        FNR == NR { of[$0]; next }
         {
-            text = $0; while (match(text, "[a-z_]+\\." call "\\(")) {
-                word = substr(text, RSTART, RLENGTH); sub(/\..*/, "", word); text = substr(text, RSTART + RLENGTH)
-                if ((("* " word) in of) || (($2 " " word) in of)) print $1
+            text = $0; while (match(text, "[.]" call "[(]")) {
+                word = substr(text, 1, RSTART - 1); text = substr(text, RSTART + RLENGTH)
+                sub(/.*[^a-z0-9_.]/, "", word); field = word; sub(/.*[.]/, ".", field)
+                print (field in of || ($2 " " word) in of) ? $1 : $1 "?"
             }
         }
     ' "$dir/receivers" "$dir/others"
@@ -332,7 +350,9 @@ callers() {
     what=$(head_of "$1" | cut -d ' ' -f 3)
     awk -v crate="$crate" '$1 != crate' "$dir/code" > "$dir/others"
     {
-        grep -E "[^A-Za-z0-9_:]$1([^A-Za-z0-9_]|\$)" "$dir/others" | cut -d ' ' -f 1
+        { echo "$path"; renamed | awk -v type="$path" '$3 == type { sub(/.*::/, "", type); print $1 "::" type; type = $3 }'; } | sort -u | while read -r before; do
+            grep -E "[^A-Za-z0-9_:]$before::$name([^A-Za-z0-9_]|\$)" "$dir/others" | cut -d ' ' -f 1
+        done
         case "$what" in
             free)
                 awk -v whole="$1" -v path="$path" '$3 == whole || $3 == path { print $1, $2, $3 }' "$dir/used" | while read -r other file used; do

@@ -11,7 +11,7 @@ pub flag_small : (b : Bool) → leb (flag b) 1 ≡ true
 flag_small true = refl
 flag_small false = refl
 
-flag_most : (b : Bool) → flag b ≤ 1
+pub flag_most : (b : Bool) → flag b ≤ 1
 flag_most true = omega arith
 flag_most false = omega arith
 

@@ -12,7 +12,7 @@ use Rattle.tables.specs.Table.{cleared, taken_out}
 use Rattle.tables.proofs.LentParts.{part, replaced, part_length}
 
 -- the part from the record on with the later ones moved down, then the freed place filled with zeros
-closed_up : (t : List ℕ) (a e : ℕ) → a + 32 ≤ e → e ≤ length t → {m y : List ℕ} → m ≡ copy_within (part t a e) 32 (length (part t a e)) 0 → y ≡ cleared (part (replaced t a e m) (e - 32) e) → replaced (replaced t a e m) (e - 32) e y ≡ take a t ++ (field t (a + 32) (e - (a + 32)) ++ (replicate 32 0 ++ drop e t))
+pub closed_up : (t : List ℕ) (a e : ℕ) → a + 32 ≤ e → e ≤ length t → {m y : List ℕ} → m ≡ copy_within (part t a e) 32 (length (part t a e)) 0 → y ≡ cleared (part (replaced t a e m) (e - 32) e) → replaced (replaced t a e m) (e - 32) e y ≡ take a t ++ (field t (a + 32) (e - (a + 32)) ++ (replicate 32 0 ++ drop e t))
 closed_up t a e h k {m} {y} f g =
     let n = e - (a + 32) in
     let q = part t a e in

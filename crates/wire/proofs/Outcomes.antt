@@ -13,7 +13,7 @@ use Rattle.ground.specs.Refusals.{number_of, refusal_of, refused_by, refusal_in}
 use Rattle.ground.specs.declared.refusals.Refusal.{Refusal}
 use Rattle.ground.proofs.RefusalNumbers.{first_comes_back, is_other, is_refusal, own_number}
 use Rattle.wire.specs.declared.Head.{Head}
-use Rattle.wire.specs.Packet.{numbered, head_at, carries, read_refusal, head_read}
+use Rattle.wire.specs.Packet.{numbered, head_at, carries, read_refusal, head_read, with_message, packet_read}
 use Rattle.wire.specs.Frame.{field}
 use Rattle.wire.specs.Number.{value}
 use Rattle.wire.proofs.Frames.{framed}
@@ -66,3 +66,11 @@ module _ (s : List ℕ) where
       let z = eqb-false (read_refusal s) 0 f in
       let q = is_refusal (refusal_of (read_refusal s)) r (sym (refused_read z) ∙ e) in
       (sym (own_number (read_refusal s) known z) ∙ ap number_of q, z))
+
+  beside : (h : result.Result Head Refusal) {r : Refusal} → with_message h (drop 16 s) ≡ result.Err r → h ≡ result.Err r
+  beside (result.Err q) {r} e = ap result.Err (is_refusal q r e)
+  beside (result.Ok h) {r} e = absurd (is_other r (record { head = h; message = drop 16 s }) (sym e))
+
+  -- and so of a packet
+  pub packet_refused : {r : Refusal} → packet_read s ≡ result.Err r → (read_refusal s ≡ number_of r) × (read_refusal s ≡ 0 → ⊥)
+  packet_refused e = head_refused (beside (head_read s) e)

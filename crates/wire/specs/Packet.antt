@@ -93,8 +93,11 @@ carries (result.Ok h) m = (table h).message m
 unfoldable pub read_refusal : List ℕ → ℕ
 read_refusal s = first (read_refusals 32 0x4C 1 s (carries (head_at s) (drop 16 s)))
 
+abbrev pub refused : {A : Type 0} → ℕ → Result A Refusal
+refused n = result.Err (refusal_of n)
+
 unfoldable pub head_read : List ℕ → Result Head Refusal
-head_read s = when eqb (read_refusal s) 0 then head_at s else result.Err (refusal_of (read_refusal s))
+head_read s = when eqb (read_refusal s) 0 then head_at s else refused (read_refusal s)
 
 -- a head that was read, with the message
 abbrev pub with_message : Result Head Refusal → List ℕ → Result Packet Refusal
@@ -103,9 +106,6 @@ with_message (result.Ok h) m = result.Ok (record { head = h; message = m })
 
 abbrev pub packet_read : List ℕ → Result Packet Refusal
 packet_read s = with_message (head_read s) (drop 16 s)
-
-abbrev pub refused : ℕ → Result Packet Refusal
-refused n = result.Err (refusal_of n)
 
 abbrev pub accepted : Packet → Result Packet Refusal
 accepted p = result.Ok p

@@ -1,17 +1,17 @@
 -- The layer of the ack over the history's step: what is shown of an outcome, and what the ack is then.
 use Prim.Native.Nat.{ℕ}
 use mathlib.Core.Path.{◌≡◌, refl, sym, ap, subst, ◌∙◌}
-use mathlib.Core.Bool.{Bool, true, false}
+use mathlib.Core.Bool.{Bool}
 use mathlib.Core.List.{List}
 use Rattle.ground.specs.Cell.{is_message}
 use Rattle.rules.specs.Supply.{Supply}
 use Rattle.rules.specs.Letters as letters
 use Rattle.rules.specs.Ends as ends
 use Rattle.rules.specs.Bench as rules
-use Rattle.rules.specs.Reading.{Use, leaves, clears, tells, use_by, said, reading, read}
+use Rattle.rules.specs.Reading.{Use, leaves, use_by, said, reading, read}
 use Rattle.rules.proofs.Lists.{if_holds}
 use Rattle.rules.proofs.Ends.{controller_reports}
-use Rattle.rules.proofs.Said.{NoAnswer, said_as_it_is, ack_as_it_is}
+use Rattle.rules.proofs.Said.{NoAnswer, said_same, said_as_it_is, ack_as_it_is}
 use Rattle.letters.specs.Lines.{line_of, letter_of, Lined}
 use Rattle.letters.specs.declared.Asks.{Asks}
 use Rattle.letters.specs.declared.Asks.TheVariants as asks
@@ -33,15 +33,7 @@ shown_with u ack x =
 
 -- the message is the delivered one, whatever is shown
 pub said_message : (u : Use) (ack : Bool) (r : ends.Report (List ℕ)) → delivered r ≡ delivered (said u ack r)
-unfolding said
-said_message u ack (ends.delivered m) = refl
-said_message u ack ends.answered_ok = refl
-said_message u ack ends.answered_lost = refl
-said_message u ack (ends.refused n) = refl
-said_message leaves ack ends.nothing = refl
-said_message clears ack ends.nothing = refl
-said_message tells true ends.nothing = refl
-said_message tells false ends.nothing = refl
+said_message u ack r = sym (said_same delivered refl refl u ack r)
 
 pub read_shown : {S : Type 0} (u : Use) (ack : Bool) (o : rules.Outcome S (List ℕ)) → shown_with u ack (shown_of o) ≡ read_of (read u ack o.report o.after)
 unfolding shown_of read_of

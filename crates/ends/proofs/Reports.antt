@@ -1,4 +1,4 @@
--- Reports in the rules and back, with the message beside them.
+-- Reports in the rules and back, with the message beside them; and the number that is told of a refusal.
 use Prim.Native.Nat.{ℕ}
 use mathlib.Core.Path.{◌≡◌, refl, sym, ap, subst, ◌∙◌}
 use mathlib.Core.Logic.{◌↔◌}

@@ -8,7 +8,7 @@ use Rattle.ground.specs.declared.refusals.Refusal.{Refusal}
 use Rattle.ground.proofs.RefusalNumbers.{refusal_of-number_of}
 use Rattle.rules.specs.Ends as rules
 use Rattle.rules.specs.Reading.{Use, leaves, clears, tells, said, ack_after}
-use Rattle.rules.proofs.Said.{refusal_through}
+use Rattle.rules.proofs.Said.{refusal_through, said_same}
 use Rattle.ends.specs.AsRules.{report_back, number_in}
 use Rattle.ends.proofs.Reports.{refused_in_rules}
 use Rattle.ends.specs.declared.Report.TheVariants as report
@@ -32,12 +32,4 @@ refused_below u ack r q e = let f = refused_in_rules (said u ack r) q e in (f.0,
 
 -- the number that is shown is that of the history's report
 pub number_said : {M : Type 0} (u : Use) (ack : Bool) (r : rules.Report M) → number_in (report_back (said u ack r)) ≡ number_in (report_back r)
-unfolding said
-number_said u ack (rules.delivered m) = refl
-number_said u ack rules.answered_ok = refl
-number_said u ack rules.answered_lost = refl
-number_said u ack (rules.refused n) = refl
-number_said leaves ack rules.nothing = refl
-number_said clears ack rules.nothing = refl
-number_said tells true rules.nothing = refl
-number_said tells false rules.nothing = refl
+number_said u ack r = said_same (λ x. number_in (report_back x)) refl refl u ack r

@@ -35,6 +35,18 @@ module _ {M : Type 0} where
   refusal_through tells true nothing n e = none_refuses answered_ok n e (λ x. x)
   refusal_through tells false nothing n e = none_refuses answered_lost n e (λ x. x)
 
+  -- what doesn't tell an answer from nothing is the same of what is said
+  pub said_same : {A : Type 0} (f : Report M → A) → f answered_ok ≡ f nothing → f answered_lost ≡ f nothing → (u : Use) (ack : Bool) (r : Report M) → f (said u ack r) ≡ f r
+  unfolding said
+  said_same f ok lost u ack (delivered m) = refl
+  said_same f ok lost u ack answered_ok = sym ok
+  said_same f ok lost u ack answered_lost = sym lost
+  said_same f ok lost u ack (refused n) = refl
+  said_same f ok lost leaves ack nothing = refl
+  said_same f ok lost clears ack nothing = refl
+  said_same f ok lost tells true nothing = ok
+  said_same f ok lost tells false nothing = lost
+
   -- no answer arrives
   abbrev pub NoAnswer : Report M → Type 0
   NoAnswer nothing = Unit {0}

@@ -15,7 +15,7 @@ use Rattle.rules.specs.Letters.{Letter, p_put, q_need, d_data, s_take, c_down, v
 use Rattle.rules.specs.Letters.{line}
 use Rattle.rules.specs.Ends.{ControllerActed, ConsoleActed, Console, Controller, ConsoleAct, put, send_need_i, send_data, tell_ack, ControllerAct}
 use Rattle.rules.specs.Ends.{console_turn, controller_turn, console_acts, controller_acts, console_rules}
-use Rattle.rules.specs.Bench.{Bench, Action, action, Outcome, at, without, copies_of, places, asks, takes, taken_out, does, effect, exceed}
+use Rattle.rules.specs.Bench.{Bench, Action, action, Outcome, without, copies_of, places, asks, takes, taken_out, does, effect, exceed}
 use Rattle.rules.specs.Bench.{end_rules, no_room, rules_of, step, run, fresh}
 use Rattle.rules.specs.Lists.{Opt}
 use Rattle.rules.specs.Bears.{ConsoleActBears, Any}
